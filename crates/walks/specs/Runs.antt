@@ -1,0 +1,41 @@
+-- The sweeps over a network, in plain words: each pass leaves every node the first K distinct values among its old row and the joins that it is offered.
+use mathlib.Core.Path.{_≡_}
+use mathlib.Core.Logic.{_⊎_}
+use mathlib.Core.Bool.{Bool, true, false}
+use Prim.Native.Nat.{ℕ, suc, _<_}
+use Rattle.measure.specs.Algebra.{Algebra}
+use Rattle.walks.specs.Networks.{Network, Open}
+use Rattle.walks.specs.Rows.{Table, In, FirstOf}
+use Rattle.walks.specs.Method.{odd}
+
+-- a pass down takes arcs from a higher node to a lower one, a pass up the others
+abbrev pub Takes : Bool → ℕ → ℕ → Type 0
+Takes true i j = j < i
+Takes false i j = i < j
+
+module _ {V : Type 0} (m : Algebra V) (net : Network V) (k : ℕ) (s : ℕ) where
+  -- x is the join of a length at the start of an open arc into j with that arc's length; the start's row is the one that
+  -- this pass leaves, since the pass comes to the start before it comes to j
+  pub record Joined (down : Bool) (new : Table V) (j : ℕ) (x : V) : Type 0 where
+    pub arc : ℕ
+    pub is-open : Open net arc
+    pub into : net .end arc ≡ j
+    pub taken : Takes down (net .start arc) j
+    pub old : V
+    pub there : In old (new (net .start arc))
+    pub sum : x ≡ m .plus old (net .arc-length arc)
+
+  abbrev pub Offered : Bool → Table V → Table V → ℕ → V → Type 0
+  Offered down old new j x = In x (old j) ⊎ Joined down new j x
+
+  abbrev pub Pass : Bool → Table V → Table V → Type 0
+  Pass down old new = (j : ℕ) → FirstOf m k (Offered down old new j) (new j)
+
+  -- the source has null alone, the other rows are empty
+  abbrev pub Start : Table V → Type 0
+  Start t = (j : ℕ) → FirstOf m k (λ x. (j ≡ s) × (x ≡ m .null)) (t j)
+
+  -- odd passes go down, even passes up
+  pub record Run (rows : ℕ → Table V) : Type 0 where
+    pub start : Start (rows 0)
+    pub passes : (p : ℕ) → Pass (odd (suc p)) (rows p) (rows (suc p))

@@ -1,0 +1,1 @@
+// Walks, rows and sweeps.
