@@ -16,3 +16,5 @@ pub mod Tight
 pub mod Once
 pub mod Nulls
 pub mod Cases
+pub mod Ends
+pub mod Solving

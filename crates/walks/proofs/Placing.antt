@@ -13,7 +13,7 @@ use Rattle.walks.specs.Method.{choose, place}
 use Rattle.walks.proofs.Orders.{greater}
 use Rattle.walks.proofs.Rows.{above-in, above-trans}
 
-in-take : {V : Type 0} (k : ℕ) (xs : List V) (z : V) → In z (take k xs) → In z xs
+pub in-take : {V : Type 0} (k : ℕ) (xs : List V) (z : V) → In z (take k xs) → In z xs
 in-take zero xs z i = absurd i
 in-take (suc k) [] z i = i
 in-take (suc k) (x ∷ xs) z (inl e) = inl e
@@ -25,12 +25,12 @@ module _ {V : Type 0} (m : Algebra V) where
   above-take (suc k) y [] h = h
   above-take (suc k) y (x ∷ xs) h = (h .0, above-take k y xs (h .1))
 
-  ascending-take : (k : ℕ) (xs : List V) → Ascending m xs → Ascending m (take k xs)
+  pub ascending-take : (k : ℕ) (xs : List V) → Ascending m xs → Ascending m (take k xs)
   ascending-take zero xs h = tt
   ascending-take (suc k) [] h = h
   ascending-take (suc k) (x ∷ xs) h = (above-take k x xs (h .0), ascending-take k xs (h .1))
 
-  covers-take : (k : ℕ) (xs : List V) (z : V) → Covers m (suc k) xs z → Covers m k (take k xs) z
+  pub covers-take : (k : ℕ) (xs : List V) (z : V) → Covers m (suc k) xs z → Covers m k (take k xs) z
   covers-take zero xs z c = tt
   covers-take (suc k) [] z c = c
   covers-take (suc k) (x ∷ xs) z (inl e) = inl e

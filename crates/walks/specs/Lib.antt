@@ -5,4 +5,5 @@ pub mod Rows
 pub mod Method
 pub mod Runs
 pub mod Solves
+pub mod Theorems
 pub mod Cases

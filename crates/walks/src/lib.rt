@@ -1,1 +1,47 @@
-// Walks, rows and sweeps.
+// Networks, walks, rows and sweeps: what a solve computes, and what its rows mean.
+//
+// The definitions stand in specs/. The functions here compute nothing: each one's contract is a theorem, for every measure.
+ghost use Rattle.walks.specs.Theorems.{MethodInWords, SettledExact, RefusedExactly, FewPasses, JoinsPresent, Beginning};
+use measure::Measure;
+
+// The sweeps as computed are those in plain words, and these determine every row and the outcome.
+pub fn method_in_words<M: Measure>() -> u8
+    ensures { λ _. ⌜ MethodInWords (M·Measure .algebra) ⌝ }
+{
+    0
+}
+
+// A settled row has the first K distinct lengths of walks to its node.
+pub fn settled_rows_are_exact<M: Measure>() -> u8
+    ensures { λ _. ⌜ SettledExact (M·Measure .algebra) ⌝ }
+{
+    0
+}
+
+// A solve is refused exactly when a walk from the source reaches a circuit before null.
+pub fn refused_exactly<M: Measure>() -> u8
+    ensures { λ _. ⌜ RefusedExactly (M·Measure .algebra) ⌝ }
+{
+    0
+}
+
+// A settled solve took at least 2 passes and at most N × K + 1.
+pub fn passes_are_few<M: Measure>() -> u8
+    ensures { λ _. ⌜ FewPasses (M·Measure .algebra) ⌝ }
+{
+    0
+}
+
+// No join is absent during a solve.
+pub fn joins_are_present<M: Measure>() -> u8
+    ensures { λ _. ⌜ JoinsPresent (M·Measure .algebra) ⌝ }
+{
+    0
+}
+
+// The row of a smaller K is the beginning of the row of a larger K.
+pub fn rows_begin_alike<M: Measure>() -> u8
+    ensures { λ _. ⌜ Beginning (M·Measure .algebra) ⌝ }
+{
+    0
+}
