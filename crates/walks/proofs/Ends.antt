@@ -137,14 +137,12 @@ module _ {V : Type 0} (m : Algebra V) (net : Network V) (k s : ℕ) (one other :
   never-as h p a b u = h p a b (unchanged-as net other one (λ i j. sym (same i j)) p u)
 
 pub method-in-words : {V : Type 0} {m : Algebra V} → Laws m → MethodInWords m
-method-in-words {V} {m} laws = record {
-  is-run = λ net k s formed pos. rows-run laws net k s formed pos;
-  only-one = λ net k s one other formed r r′. rows-once laws net formed k s one other r r′;
-  settles = λ net k s run formed pos r p e. settles-as m net k s (rows m net k s) run (agree net k s run formed pos r) p (settled-is laws net k s p e);
-  settles-back = λ net k s run formed pos r p h. is-settled laws net k s p (settles-as m net k s run (rows m net k s) (λ i j. sym (agree net k s run formed pos r i j)) p h);
-  refuses = λ net k s run formed pos r e. never-as m net k s (rows m net k s) run (agree net k s run formed pos r) (refused-is laws net k s e);
-  refuses-back = λ net k s run formed pos r h. is-refused laws net k s (never-as m net k s run (rows m net k s) (λ i j. sym (agree net k s run formed pos r i j)) h);
+method-in-words {V} {m} laws net k s formed pos = record {
+  is-run = rows-run laws net k s formed pos;
+  only-one = rows-once laws net formed k s;
+  settles = λ run r p. (λ e. settles-as m net k s (rows m net k s) run (agree run r) p (settled-is laws net k s p e), λ h. is-settled laws net k s p (settles-as m net k s run (rows m net k s) (λ i j. sym (agree run r i j)) p h));
+  refuses = λ run r. (λ e. never-as m net k s (rows m net k s) run (agree run r) (refused-is laws net k s e), λ h. is-refused laws net k s (never-as m net k s run (rows m net k s) (λ i j. sym (agree run r i j)) h));
 }
   where
-    agree : (net : Network V) (k s : ℕ) (run : ℕ → Table V) → WellFormed m net → 1 ≤ k → Run m net k s run → (p j : ℕ) → rows m net k s p j ≡ run p j
-    agree net k s run formed pos r = rows-once laws net formed k s (rows m net k s) run (rows-run laws net k s formed pos) r
+    agree : (run : ℕ → Table V) → Run m net k s run → (p j : ℕ) → rows m net k s p j ≡ run p j
+    agree run r = rows-once laws net formed k s (rows m net k s) run (rows-run laws net k s formed pos) r

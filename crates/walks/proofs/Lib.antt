@@ -18,3 +18,4 @@ pub mod Nulls
 pub mod Cases
 pub mod Ends
 pub mod Solving
+pub mod Marking

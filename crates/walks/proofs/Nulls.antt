@@ -1,5 +1,6 @@
 -- Whether a null circuit is reached, by tight arcs.
 use mathlib.Core.Path.{_≡_, refl, sym, _∙_, ap, subst}
+use mathlib.Core.Bool.{Bool, true, false}
 use mathlib.Core.List.{List, [], _∷_, _++_}
 use Prim.Native.Nat.{ℕ, suc, zero, _+_, _*_, _^_, _≤_, _<_}
 use native.Mathlib.Omega.{arith}
@@ -10,12 +11,13 @@ use Rattle.walks.specs.Networks.{Network, WellFormed}
 use Rattle.walks.specs.Walks.{Walk, walk-length, weight, Counted}
 use Rattle.walks.specs.Circuits.{NegativeCircuit, NullCircuit}
 use Rattle.walks.specs.Rows.{Covers, Table}
+use Rattle.walks.specs.Nulls.{FirstLength, Tight, AllTight, Ring, Held}
 use Rattle.walks.proofs.Orders.{Three, before, same, after, three}
 use Rattle.walks.proofs.Lengths.{walk-append, weight-append, weight-small}
 use Rattle.walks.proofs.Runs.{Sound}
 use Rattle.walks.proofs.Chains.{longer}
 use Rattle.walks.proofs.Circuits.{Looped, looped, Near, near}
-use Rattle.walks.proofs.Tight.{Head, Tight, AllTight, tight-null, null-tight}
+use Rattle.walks.proofs.Tight.{tight-null, null-tight}
 
 module _ {V : Type 0} (m : Algebra V) (net : Network V) (s : ℕ) where
   -- a null circuit of few arcs, reached by few
@@ -79,7 +81,8 @@ module _ {V : Type 0} {m : Algebra V} (laws : Laws m) (net : Network V) (formed 
   null-near b = null-near-within (length (b .last ∷ b .rest)) (b .at) (b .last) (b .rest) (omega arith) (near {m = m} net formed s low high (b .at) (b .way) (b .leads)) (b .round) (b .counted) (b .admitted)
 
 module _ {V : Type 0} (m : Algebra V) (net : Network V) (table : Table V) where
-  pub record Ring : Type 0 where
+  -- a circuit of tight arcs, at most as many as there are nodes
+  pub record ShortRing : Type 0 where
     pub at : ℕ
     pub last : ℕ
     pub rest : List ℕ
@@ -91,53 +94,75 @@ module _ {V : Type 0} (m : Algebra V) (net : Network V) (table : Table V) where
   tight-part [] t h = (tt, h)
   tight-part (a ∷ u) t h = let r = tight-part u t (h .1) in ((h .0, r .0), r .1)
 
+  -- a ring can be cut to a short one
+  short-within : WellFormed m net → (n v a : ℕ) (w : List ℕ) → length (a ∷ w) ≤ n → Walk net v v (a ∷ w) → AllTight m net table (a ∷ w) → ShortRing
+  short-within formed zero v a w few h t = absurd (omega arith)
+  short-within formed (suc n) v a w few h t = go (decLt (net .nodes) (length (a ∷ w))) (short-within formed n)
+    where
+      go : Dec (net .nodes < length (a ∷ w)) → ((v′ a′ : ℕ) (w′ : List ℕ) → length (a′ ∷ w′) ≤ n → Walk net v′ v′ (a′ ∷ w′) → AllTight m net table (a′ ∷ w′) → ShortRing) → ShortRing
+      go (no l) ih = record { at = v; last = a; rest = w; round = h; few = omega arith; tight = t }
+      go (yes l) ih =
+          let p = formed a (h .0) in
+          let e = h .1 in
+          let r = looped {m = m} net formed v (omega arith) (omega arith) (net .start a) w (h .2) (omega arith) in
+          let q = tight-part (r .u) ((r .a ∷ r .c) ++ r .t) (subst (AllTight m net table) (r .is) (t .1)) in
+          ih (r .at) (r .a) (r .c) (omega (arith, ap length (r .is), length-append (r .u) ((r .a ∷ r .c) ++ r .t), length-append (r .a ∷ r .c) (r .t))) (r .round) (tight-part (r .a ∷ r .c) (r .t) (q .1) .0)
+
+  pub short-ring : WellFormed m net → Ring m net table → ShortRing
+  short-ring formed r = short-within formed (length (r .last ∷ r .rest)) (r .at) (r .last) (r .rest) (omega arith) (r .round) (r .tight)
+
   -- nodes ranked along the tight arcs: there is no ring
-  pub ranked : (rank : ℕ → ℕ) → ((a : ℕ) → Tight m net table a → rank (net .start a) < rank (net .end a)) → ¬ Ring
+  pub ranked : (rank : ℕ → ℕ) → ((a : ℕ) → Tight m net table a → rank (net .start a) < rank (net .end a)) → ¬ Ring m net table
   ranked rank up r = let e = climb (r .at) (r .at) (r .last ∷ r .rest) (r .round) (r .tight) in omega arith
     where
       climb : (v j : ℕ) (u : List ℕ) → Walk net v j u → AllTight m net table u → rank v + length u ≤ rank j
       climb v j [] h t = omega (arith, ap rank h)
       climb v j (a ∷ u) h t = let ih = climb v (net .start a) u (h .2) (t .1) in omega (arith, up a (t .0), ap rank (h .1))
 
-  -- some nodes each of which a tight arc leads to from one of them
-  pub record Fed (S : ℕ → Type 0) (j : ℕ) : Type 0 where
-    pub arc : ℕ
-    pub tight : Tight m net table arc
-    pub into : net .end arc ≡ j
-    pub from : S (net .start arc)
+  -- n tight arcs lead to j
+  pub record Behind (n j : ℕ) : Type 0 where
+    pub at : ℕ
+    pub way : List ℕ
+    pub leads : Walk net at j way
+    pub many : length way ≡ n
+    pub tight : AllTight m net table way
 
-  record Back (S : ℕ → Type 0) (n j : ℕ) : Type 0 where
-    at : ℕ
-    way : List ℕ
-    in-S : S at
-    leads : Walk net at j way
-    many : length way ≡ n
-    tight : AllTight m net table way
+  starts-in : WellFormed m net → (v j a : ℕ) (w : List ℕ) → Walk net v j (a ∷ w) → (1 ≤ v) × (v ≤ net .nodes)
+  starts-in formed v j a [] h = let p = formed a (h .0) in (omega (arith, p .start-low, h .2), omega (arith, p .start-high, h .2))
+  starts-in formed v j a (b ∷ w) h = starts-in formed v (net .start a) b w (h .2)
 
-  back : (S : ℕ → Type 0) → ((j : ℕ) → S j → Fed S j) → (n j : ℕ) → S j → Back S n j
-  back S fed zero j h = record { at = j; way = []; in-S = h; leads = refl; many = refl; tight = tt }
-  back S fed (suc n) j h =
-      let f = fed j h in
-      let r = back S fed n (net .start (f .arc)) (f .from) in
-      record { at = r .at; way = f .arc ∷ r .way; in-S = r .in-S; leads = (f .tight .is-open, f .into, r .leads); many = ap suc (r .many); tight = (f .tight, r .tight) }
+  -- as many as there are nodes: then there is a ring
+  pub behind-ring : WellFormed m net → (j : ℕ) → 1 ≤ net .nodes → Behind (net .nodes) j → Ring m net table
+  behind-ring formed j some b = go (b .way) (b .leads) (b .many) (b .tight)
+    where
+      go : (w : List ℕ) → Walk net (b .at) j w → length w ≡ net .nodes → AllTight m net table w → Ring m net table
+      go [] h many t = absurd (omega arith)
+      go (a ∷ w) h many t =
+          let i = starts-in formed (b .at) j a w h in
+          let l = looped {m = m} net formed (b .at) (i .0) (i .1) j (a ∷ w) h (omega arith) in
+          let q = tight-part (l .u) ((l .a ∷ l .c) ++ l .t) (subst (AllTight m net table) (l .is) t) in
+          record { at = l .at; last = l .a; rest = l .c; round = l .round; tight = tight-part (l .a ∷ l .c) (l .t) (q .1) .0 }
 
-  -- then there is a circuit of tight arcs
-  pub stuck : WellFormed m net → (S : ℕ → Type 0) → ((j : ℕ) → S j → Fed S j) → ((j : ℕ) → S j → (1 ≤ j) × (j ≤ net .nodes)) → (j : ℕ) → S j → Ring
-  stuck formed S fed inside j h =
-      let r = back S fed (net .nodes) j h in
-      let i = inside (r .at) (r .in-S) in
-      let l = looped {m = m} net formed (r .at) (i .0) (i .1) j (r .way) (r .leads) (omega (arith, r .many)) in
-      let t = tight-part (l .u) ((l .a ∷ l .c) ++ l .t) (subst (AllTight m net table) (l .is) (r .tight)) in
-      record { at = l .at; last = l .a; rest = l .c; round = l .round;
-        few = omega (arith, r .many, ap length (l .is), length-append (l .u) ((l .a ∷ l .c) ++ l .t), length-append (l .a ∷ l .c) (l .t));
-        tight = tight-part (l .a ∷ l .c) (l .t) (t .1) .0 }
+  pub behind-more : (n : ℕ) (a j : ℕ) → Tight m net table a → net .end a ≡ j → Behind n (net .start a) → Behind (suc n) j
+  behind-more n a j t e r = record { at = r .at; way = a ∷ r .way; leads = (t .is-open, e, r .leads); many = ap suc (r .many); tight = (t, r .tight) }
+
+  -- nodes without a mark that are held by one another: then there is a ring
+  pub held-ring : WellFormed m net → (mark : ℕ → Bool) → ((j : ℕ) → 1 ≤ j → j ≤ net .nodes → mark j ≡ false → Held m net table mark j) → (j : ℕ) → 1 ≤ j → j ≤ net .nodes → mark j ≡ false → Ring m net table
+  held-ring formed mark held j low high none = behind-ring formed j (omega arith) (back (net .nodes) j low high none)
+    where
+      back : (n i : ℕ) → 1 ≤ i → i ≤ net .nodes → mark i ≡ false → Behind n i
+      back zero i l h e = record { at = i; way = []; leads = refl; many = refl; tight = tt }
+      back (suc n) i l h e =
+          let f = held i l h e in
+          let p = formed (f .arc) (f .tight .is-open) in
+          behind-more n (f .arc) i (f .tight) (f .into) (back n (net .start (f .arc)) (p .start-low) (p .start-high) (f .from))
 
 module _ {V : Type 0} {m : Algebra V} (laws : Laws m) (net : Network V) (formed : WellFormed m net) (s k b : ℕ) (low : 1 ≤ s) (high : s ≤ net .nodes) (no-negative : ¬ NegativeCircuit m net s) (table : Table V)
     (small : b * 10 ^ 9 + net .nodes * 10 ^ 9 ≤ 2 ^ 62) (sound : Sound m net s b table)
     (all : (j : ℕ) (w : List ℕ) → Walk net s j w → Counted m net w → Covers m (suc k) (table j) (walk-length m net w)) where
   record Some (j : ℕ) : Type 0 where
     value : V
-    head : Head m net table j value
+    head : FirstLength m net table j value
 
   some : (j : ℕ) → Near net s (net .nodes) j → Some j
   some j n = go (table j) refl (all j (n .way) (n .leads) (omega (arith, weight-small laws net s j (n .way) formed (n .leads), n .few)))
@@ -153,12 +178,13 @@ module _ {V : Type 0} {m : Algebra V} (laws : Laws m) (net : Network V) (formed 
       let h = some (t .at) (t .near) in
       let w = weight-small laws net (t .at) (t .at) (t .last ∷ t .rest) formed (t .round) in
       let f = t .few in
-      record { at = t .at; last = t .last; rest = t .rest; round = t .round; few = t .few;
+      record { at = t .at; last = t .last; rest = t .rest; round = t .round;
         tight = null-tight laws net formed s k b table sound all (t .at) (h .value) (t .last ∷ t .rest) (omega arith) (h .head) (t .round) (t .none) }
 
   pub ring-null : Ring m net table → NullCircuit m net s
-  ring-null r =
+  ring-null ring =
+      let r = short-ring m net table formed ring in
       let w = weight-small laws net (r .at) (r .at) (r .last ∷ r .rest) formed (r .round) in
       let f = r .few in
-      let h = subst (λ j. Head m net table j (r .tight .0 .here)) (r .round .1) (r .tight .0 .end) in
+      let h = subst (λ j. FirstLength m net table j (r .tight .0 .here)) (r .round .1) (r .tight .0 .end) in
       tight-null laws net formed s k b table sound all (r .at) (r .last) (r .rest) (r .tight .0 .here) (omega arith) h (r .round) (r .tight)

@@ -10,29 +10,13 @@ use Rattle.walks.specs.Networks.{Network, Open, WellFormed}
 use Rattle.walks.specs.Walks.{Walk, walk-length, weight, Counted}
 use Rattle.walks.specs.Circuits.{NullCircuit}
 use Rattle.walks.specs.Rows.{In, Covers, Table}
+use Rattle.walks.specs.Nulls.{FirstLength, Tight, AllTight}
 use Rattle.walks.proofs.Orders.{Three, before, same, after, three, never, before-not}
 use Rattle.walks.proofs.Lengths.{walk-append, weight-append, magnitude-walk, walk-length-append, weight-small}
 use Rattle.walks.proofs.Runs.{Walked, Sound}
 
 module _ {V : Type 0} (m : Algebra V) (net : Network V) (table : Table V) where
-  pub record Head (j : ℕ) (x : V) : Type 0 where
-    pub rest : List V
-    pub is : table j ≡ x ∷ rest
-
-  -- the first length at the arc's end comes over this arc
-  pub record Tight (a : ℕ) : Type 0 where
-    pub is-open : Open net a
-    pub there : V
-    pub here : V
-    pub start : Head (net .start a) there
-    pub end : Head (net .end a) here
-    pub sum : m .plus there (net .arc-length a) ≡ here
-
-  abbrev pub AllTight : List ℕ → Type 0
-  AllTight [] = Unit {0}
-  AllTight (a ∷ w) = Tight a × AllTight w
-
-  pub head-once : (j : ℕ) (x y : V) → Head j x → Head j y → x ≡ y
+  pub head-once : (j : ℕ) (x y : V) → FirstLength m net table j x → FirstLength m net table j y → x ≡ y
   head-once j x y h k = let p = h .is in let q = k .is in cc
 
 module _ {V : Type 0} {m : Algebra V} (laws : Laws m) (net : Network V) (formed : WellFormed m net) (s k b : ℕ) (table : Table V) (sound : Sound m net s b table)
@@ -41,10 +25,10 @@ module _ {V : Type 0} {m : Algebra V} (laws : Laws m) (net : Network V) (formed 
   abbrev pub Spare : List ℕ → Type 0
   Spare w = b * 10 ^ 9 + weight m net w ≤ 2 ^ 62
 
-  reached : (j : ℕ) (x : V) → Head m net table j x → Walked m net s b j x
+  reached : (j : ℕ) (x : V) → FirstLength m net table j x → Walked m net s b j x
   reached j x h = sound j x (subst (In x) (sym (h .is)) (inl refl))
 
-  light : (j : ℕ) (x : V) → b * 10 ^ 9 ≤ 2 ^ 62 → Head m net table j x → m .magnitude x ≤ b * 10 ^ 9
+  light : (j : ℕ) (x : V) → b * 10 ^ 9 ≤ 2 ^ 62 → FirstLength m net table j x → m .magnitude x ≤ b * 10 ^ 9
   light j x small h =
       let w = reached j x h in
       let q = weight-small laws net s j (w .walk) formed (w .leads) in
@@ -54,10 +38,10 @@ module _ {V : Type 0} {m : Algebra V} (laws : Laws m) (net : Network V) (formed 
   -- v's first length and the way on bound the first length at its end
   record Low (j : ℕ) (x : V) : Type 0 where
     value : V
-    head : Head m net table j value
+    head : FirstLength m net table j value
     low : ¬ Before m x value
 
-  heads-low : (v j : ℕ) (h : V) (u : List ℕ) → Spare u → Walk net v j u → Head m net table v h → Low j (m .plus h (walk-length m net u))
+  heads-low : (v j : ℕ) (h : V) (u : List ℕ) → Spare u → Walk net v j u → FirstLength m net table v h → Low j (m .plus h (walk-length m net u))
   heads-low v j h u spare on head = go (table j) refl (all j (u ++ w .walk) (walk-append net s v j u (w .walk) on (w .leads)) counted)
     where
       w : Walked m net s b v h
@@ -74,8 +58,8 @@ module _ {V : Type 0} {m : Algebra V} (laws : Laws m) (net : Network V) (formed 
       go (g ∷ gs) e c = record { value = g; head = record { rest = gs; is = e }; low = not-less g gs c }
 
   -- along tight arcs the first lengths add up
-  tight-sum : (v j : ℕ) (h : V) (u : List ℕ) → Spare u → Walk net v j u → AllTight m net table u → Head m net table v h → Head m net table j (m .plus h (walk-length m net u))
-  tight-sum v j h [] spare on tight head = rw (laws .null-right h) (subst (λ i. Head m net table i h) on head)
+  tight-sum : (v j : ℕ) (h : V) (u : List ℕ) → Spare u → Walk net v j u → AllTight m net table u → FirstLength m net table v h → FirstLength m net table j (m .plus h (walk-length m net u))
+  tight-sum v j h [] spare on tight head = rw (laws .null-right h) (subst (λ i. FirstLength m net table i h) on head)
   tight-sum v j h (a ∷ u) spare on tight head =
       let t = tight .0 in
       let ih = tight-sum v (net .start a) h u (omega arith) (on .2) (tight .1) head in
@@ -85,11 +69,11 @@ module _ {V : Type 0} {m : Algebra V} (laws : Laws m) (net : Network V) (formed 
       let d = laws .associative h (walk-length m net u) (net .arc-length a) (omega arith) in
       subst₂′ (net .end a) j (t .here) (m .plus h (walk-length m net (a ∷ u))) (on .1) (sym (t .sum) ∙ ap (λ x. m .plus x (net .arc-length a)) e ∙ d) (t .end)
     where
-      subst₂′ : (i j : ℕ) (x y : V) → i ≡ j → x ≡ y → Head m net table i x → Head m net table j y
-      subst₂′ i j x y p q z = subst (λ l. Head m net table l y) p (subst (Head m net table i) q z)
+      subst₂′ : (i j : ℕ) (x y : V) → i ≡ j → x ≡ y → FirstLength m net table i x → FirstLength m net table j y
+      subst₂′ i j x y p q z = subst (λ l. FirstLength m net table l y) p (subst (FirstLength m net table i) q z)
 
   -- a circuit of tight arcs is a null circuit
-  pub tight-null : (v a : ℕ) (c : List ℕ) (h : V) → Spare (a ∷ c) → Head m net table v h → Walk net v v (a ∷ c) → AllTight m net table (a ∷ c) → NullCircuit m net s
+  pub tight-null : (v a : ℕ) (c : List ℕ) (h : V) → Spare (a ∷ c) → FirstLength m net table v h → Walk net v v (a ∷ c) → AllTight m net table (a ∷ c) → NullCircuit m net s
   tight-null v a c h spare head round tight =
       record { at = v; way = reached v h head .walk; leads = reached v h head .leads; way-counted = omega (arith, weight-small laws net s v (reached v h head .walk) formed (reached v h head .leads), reached v h head .few); last = a; rest = c; round = round; counted = omega arith; admitted = go (three laws (walk-length m net (a ∷ c)) (m .null)) }
     where
@@ -128,7 +112,7 @@ module _ {V : Type 0} {m : Algebra V} (laws : Laws m) (net : Network V) (formed 
       over (after q) fx fz = absurd (first q)
 
   -- every arc of a null circuit is tight
-  module _ (v : ℕ) (h : V) (head : Head m net table v h) where
+  module _ (v : ℕ) (h : V) (head : FirstLength m net table v h) where
     tight-at : (u : List ℕ) (a : ℕ) (t : List ℕ) → b * 10 ^ 9 + weight m net (u ++ (a ∷ t)) ≤ 2 ^ 62 → walk-length m net (u ++ (a ∷ t)) ≡ m .null → Open net a → Walk net (net .end a) v u → Walk net v (net .start a) t → Tight m net table a
     tight-at u a t spare none o on back =
         let wt = weight-append laws net u (a ∷ t) in
@@ -139,7 +123,7 @@ module _ {V : Type 0} {m : Algebra V} (laws : Laws m) (net : Network V) (formed 
         (slack h (first .value) (second .value) u a t spare none (light v h (omega arith) head) (light (net .start a) (first .value) (omega arith) (first .head)) (light (net .end a) (second .value) (omega arith) (second .head)) (first .low)
             (subst (λ z. ¬ Before m (m .plus (second .value) (walk-length m net u)) z) (head-once m net table v (third .value) h (third .head) head) (third .low)))
       where
-        go : (x y : V) → Head m net table (net .start a) x → Head m net table (net .end a) y → ¬ Before m (m .plus x (net .arc-length a)) y → (Before m y (m .plus x (net .arc-length a)) → ⊥) → Tight m net table a
+        go : (x y : V) → FirstLength m net table (net .start a) x → FirstLength m net table (net .end a) y → ¬ Before m (m .plus x (net .arc-length a)) y → (Before m y (m .plus x (net .arc-length a)) → ⊥) → Tight m net table a
         go x y p q low clash = by (three laws y (m .plus x (net .arc-length a)))
           where
             by : Three m y (m .plus x (net .arc-length a)) → Tight m net table a
@@ -155,5 +139,5 @@ module _ {V : Type 0} {m : Algebra V} (laws : Laws m) (net : Network V) (formed 
             all-tight (net .start a) (u ++ (a ∷ [])) t (rw e spare) (rw e none) (walk-append net (net .start a) x v u (a ∷ []) on (back .0, back .1, refl)) (back .2))
 
   -- a null circuit is a circuit of tight arcs
-  pub null-tight : (v : ℕ) (h : V) (c : List ℕ) → Spare c → Head m net table v h → Walk net v v c → walk-length m net c ≡ m .null → AllTight m net table c
+  pub null-tight : (v : ℕ) (h : V) (c : List ℕ) → Spare c → FirstLength m net table v h → Walk net v v c → walk-length m net c ≡ m .null → AllTight m net table c
   null-tight v h c spare head round none = all-tight v h head v [] c spare none refl round

@@ -6,4 +6,5 @@ pub mod Method
 pub mod Runs
 pub mod Solves
 pub mod Theorems
+pub mod Nulls
 pub mod Cases

@@ -50,15 +50,16 @@ module _ {V : Type 0} (m : Algebra V) (net : Network V) (k s : ℕ) (rows : ℕ 
   abbrev pub NeverSettles : Type 0
   NeverSettles = (p : ℕ) → 2 ≤ p → p ≤ last-pass m net k s → ¬ Unchanged net rows p
 
+-- the rows as computed are a run in plain words, there is only one run, and the outcome is what the passes of the run say
+pub record InWords {V : Type 0} (m : Algebra V) (net : Network V) (k s : ℕ) : Type 0 where
+  pub is-run : Run m net k s (rows m net k s)
+  pub only-one : (one other : ℕ → Table V) → Run m net k s one → Run m net k s other → (p j : ℕ) → one p j ≡ other p j
+  pub settles : (run : ℕ → Table V) → Run m net k s run → (p : ℕ) → (outcome m net k s ≡ settled p → Settles m net k s run p) × (Settles m net k s run p → outcome m net k s ≡ settled p)
+  pub refuses : (run : ℕ → Table V) → Run m net k s run → (outcome m net k s ≡ refused → NeverSettles m net k s run) × (NeverSettles m net k s run → outcome m net k s ≡ refused)
+
 module _ {V : Type 0} (m : Algebra V) where
-  -- the rows as computed are a run in plain words, there is only one, and the outcome is what the run's passes say
-  pub record MethodInWords : Type 0 where
-    pub is-run : (net : Network V) (k s : ℕ) → WellFormed m net → 1 ≤ k → Run m net k s (rows m net k s)
-    pub only-one : (net : Network V) (k s : ℕ) (one other : ℕ → Table V) → WellFormed m net → Run m net k s one → Run m net k s other → (p j : ℕ) → one p j ≡ other p j
-    pub settles : (net : Network V) (k s : ℕ) (run : ℕ → Table V) → WellFormed m net → 1 ≤ k → Run m net k s run → (p : ℕ) → outcome m net k s ≡ settled p → Settles m net k s run p
-    pub settles-back : (net : Network V) (k s : ℕ) (run : ℕ → Table V) → WellFormed m net → 1 ≤ k → Run m net k s run → (p : ℕ) → Settles m net k s run p → outcome m net k s ≡ settled p
-    pub refuses : (net : Network V) (k s : ℕ) (run : ℕ → Table V) → WellFormed m net → 1 ≤ k → Run m net k s run → outcome m net k s ≡ refused → NeverSettles m net k s run
-    pub refuses-back : (net : Network V) (k s : ℕ) (run : ℕ → Table V) → WellFormed m net → 1 ≤ k → Run m net k s run → NeverSettles m net k s run → outcome m net k s ≡ refused
+  abbrev pub MethodInWords : Type 0
+  MethodInWords = (net : Network V) (k s : ℕ) → WellFormed m net → 1 ≤ k → InWords m net k s
 
   -- settled rows are exact
   abbrev pub SettledExact : Type 0

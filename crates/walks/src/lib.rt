@@ -2,6 +2,7 @@
 //
 // The definitions stand in specs/. The functions here compute nothing: each one's contract is a theorem, for every measure.
 ghost use Rattle.walks.specs.Theorems.{MethodInWords, SettledExact, RefusedExactly, FewPasses, JoinsPresent, Beginning};
+ghost use Rattle.walks.specs.Nulls.{NullsTold};
 use measure::Measure;
 
 // The sweeps as computed are those in plain words, and these determine every row and the outcome.
@@ -42,6 +43,13 @@ pub fn joins_are_present<M: Measure>() -> u8
 // The row of a smaller K is the beginning of the row of a larger K.
 pub fn rows_begin_alike<M: Measure>() -> u8
     ensures { λ _. ⌜ Beginning (M·Measure .algebra) ⌝ }
+{
+    0
+}
+
+// Whether a null circuit is reached: by rings of tight arcs, by ranks, by marks.
+pub fn null_circuits_are_told<M: Measure>() -> u8
+    ensures { λ _. ⌜ NullsTold (M·Measure .algebra) ⌝ }
 {
     0
 }
