@@ -1,0 +1,4 @@
+pub mod Clearing
+pub mod Holding
+pub mod Ordered
+pub mod Reading

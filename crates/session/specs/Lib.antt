@@ -1,0 +1,4 @@
+pub mod Nets
+pub mod Drafts
+pub mod Settled
+pub mod Solving
