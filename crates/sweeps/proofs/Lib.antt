@@ -4,3 +4,6 @@ pub mod Noding
 pub mod Bridge
 pub mod Passing
 pub mod Looping
+pub mod Standing
+pub mod Checking
+pub mod Ranking
