@@ -79,7 +79,7 @@ module _ {V : Type 0} {m : Algebra V} (laws : Laws m) where
       subst (λ z. Goes k old z (place m k y row)) (sym is) (first, second)
 
   worked-goes : (net : Network V) (src k : ℕ) (x : V) (old : List V) (xs : List V) (row : List V) (s : Marked V) → length row ≤ k → ((a : V) → In a xs → Joinable m a x) → Goes k old s row
-    → Goes k old (worked m k x s xs) (place-all m net k src xs x row)
+      → Goes k old (worked m k x s xs) (place-all m net k src xs x row)
   worked-goes net src k x old [] row s short fits h = h
   worked-goes net src k x old (a ∷ rest) row s short fits h =
       worked-goes net src k x old rest (place m k (m .plus a x) row) (carried m k x s a) (place-short laws k (m .plus a x) row short) (λ b i. fits b (inr i))
@@ -95,8 +95,9 @@ module _ {V : Type 0} {m : Algebra V} (laws : Laws m) (net : Network V) (k s : �
       up = work-neat laws net k s down t j (neat-of b t ready) .up;
       short = work-neat laws net k s down t j (neat-of b t ready) .short;
       light = λ i x h. elim (cases-eq i j) [
-          inl e ↦ here x (work-first laws net k s down t (neat-of b t ready) j .from x (subst (λ z. In x (work m net k s down t j z)) e h))
-        | inr ne ↦ omega (arith, ready .light i x (subst (In x) (put-there t j (gather m net k s down t j (net .arcs)) i ne) h)) ];
+        | inl e ↦ here x (work-first laws net k s down t (neat-of b t ready) j .from x (subst (λ z. In x (work m net k s down t j z)) e h))
+        | inr ne ↦ omega (arith, ready .light i x (subst (In x) (put-there t j (gather m net k s down t j (net .arcs)) i ne) h))
+      ];
     }
       where
         here : (x : V) → In x (t j) ⊎ Joined m net k s down t j x → m .magnitude x ≤ (b + 1) * 10 ^ 9
@@ -113,9 +114,9 @@ module _ {V : Type 0} {m : Algebra V} (laws : Laws m) (net : Network V) (k s : �
       node-goes (suc a) below = go (uses net down j (suc a)) refl (node-goes a (omega arith)) (first-upto laws net k s down t (neat-of b t ready) j a (omega arith))
         where
           go : (d : Bool) → uses net down j (suc a) ≡ d → Goes laws k (t j) (node-row m net k down j v c a) (gather m net k s down t j a)
-            → FirstOf m k (λ x. In x (t j) ⊎ Upto laws net k s down t (neat-of b t ready) j a x) (gather m net k s down t j a)
-            → Goes laws k (t j) (over m net k down j v c (node-row m net k down j v c a) (suc a))
-                (offer m net k s d (t (net .start (suc a))) (net .arc-length (suc a)) (gather m net k s down t j a))
+              → FirstOf m k (λ x. In x (t j) ⊎ Upto laws net k s down t (neat-of b t ready) j a x) (gather m net k s down t j a)
+              → Goes laws k (t j) (over m net k down j v c (node-row m net k down j v c a) (suc a))
+              (offer m net k s d (t (net .start (suc a))) (net .arc-length (suc a)) (gather m net k s down t j a))
           go true e ih f =
               let u = uses-yes net down j (suc a) (omega arith) below e in
               let p = formed (suc a) (u .is-open) in
@@ -123,8 +124,8 @@ module _ {V : Type 0} {m : Algebra V} (laws : Laws m) (net : Network V) (k s : �
               let from : List V = t (net .start (suc a)) in
               let x : V = net .arc-length (suc a) in
               let same : worked m k x row from ≡ over m net k down j v c row (suc a) =
-                  ap (worked m k x row) (sym (are .at (net .start (suc a)) (p .start-low) (p .start-high)))
-                  ∙ ap (λ z. cond z (worked m k x row (row-of k (net .start (suc a)) v c)) row) (sym e) in
+              ap (worked m k x row) (sym (are .at (net .start (suc a)) (p .start-low) (p .start-high)))
+              ∙ ap (λ z. cond z (worked m k x row (row-of k (net .start (suc a)) v c)) row) (sym e) in
               subst (λ z. Goes laws k (t j) z (place-all m net k s from x (gather m net k s down t j a))) same
               (worked-goes laws net s k x (t j) from (gather m net k s down t j a) row (f .short) (λ y i. omega (arith, p .small, ready .light _ y i)) ih)
           go false e ih f =

@@ -26,24 +26,28 @@ module _ {V : Type 0} (m : Algebra V) (net : Network V) where
 
   pub checked-more : (a last : ℕ) → Checked a last → ProperArc m net (suc a) → last ≤ net .end (suc a) → Checked (a + 1) (net .end (suc a))
   checked-more a last h p le = subst (λ z. Checked z (net .end (suc a))) (sym (add-one a)) (record {
-      proper = λ b low high. elim (cases-eq b (suc a)) [ inl e ↦ subst (ProperArc m net) (sym e) p | inr ne ↦ h .proper b low (omega arith) ];
-      sorted = λ b c low less high. elim (cases-eq c (suc a)) [
-          inl e ↦ elim (cases-eq b (suc a)) [
-              inl f ↦ omega (arith, ap (net .end) e, ap (net .end) f)
-            | inr ne ↦ elim (cases-eq a 0) [
-                inl z ↦ absurd (omega arith)
-              | inr some ↦ omega (arith, ap (net .end) e, h .sorted b a low (omega arith) (omega arith), h .last-end) ] ]
-        | inr ne ↦ h .sorted b c low less (omega arith) ];
-      last-end = refl;
-    })
+    proper = λ b low high. elim (cases-eq b (suc a)) [ inl e ↦ subst (ProperArc m net) (sym e) p | inr ne ↦ h .proper b low (omega arith) ];
+    sorted = λ b c low less high. elim (cases-eq c (suc a)) [
+      | inl e ↦ elim (cases-eq b (suc a)) [
+        | inl f ↦ omega (arith, ap (net .end) e, ap (net .end) f)
+        | inr ne ↦ elim (cases-eq a 0) [
+          | inl z ↦ absurd (omega arith)
+          | inr some ↦ omega (arith, ap (net .end) e, h .sorted b a low (omega arith) (omega arith), h .last-end)
+        ]
+      ]
+      | inr ne ↦ h .sorted b c low less (omega arith)
+    ];
+    last-end = refl;
+  })
 
   pub checked-all : (a last : ℕ) → a ≡ net .arcs → Checked a last → InOrder m net
   checked-all a last e h = record { proper = λ b low high. h .proper b low (omega arith); sorted = λ b c low less high. h .sorted b c low less (omega arith) }
 
   pub checked-falls : (a last : ℕ) → net .end 0 ≡ 0 → a < net .arcs → Checked a last → net .end (suc a) < last → ¬ InOrder m net
   checked-falls a last none lt h falls order = elim (cases-eq a 0) [
-      inl z ↦ omega (arith, h .last-end, ap (net .end) z)
-    | inr more ↦ omega (arith, h .last-end, order .sorted a (suc a) (omega arith) (omega arith) (omega arith)) ]
+    | inl z ↦ omega (arith, h .last-end, ap (net .end) z)
+    | inr more ↦ omega (arith, h .last-end, order .sorted a (suc a) (omega arith) (omega arith) (omega arith))
+  ]
 
 pub fits-proper : {V : Type 0} (m : Algebra V) (n : ℕ) (arcs : List Arc) (lengths : List V) (a : ℕ) (x : V) → x ≡ getD lengths a (m .null) → FitsArc m n (getD arcs a no-arc) x → ProperArc m (network m n arcs lengths) (suc a)
 fits-proper m n arcs lengths a x e f =
@@ -88,8 +92,9 @@ module _ {V : Type 0} (net : Network V) where
   indexing-more first was below j h lt s = record {
     reach = record { few = s .under .few; under = λ a low high. let p = s .under .under a low high in omega arith };
     made = λ i less. elim (cases-eq i j) [
-        inl e ↦ subst (λ z. Splits (getD (set first j below) z 0) z) (sym e) (subst (λ z. Splits z j) (sym (getD-set-same first j below 0 lt)) s)
-      | inr ne ↦ subst (λ z. Splits z i) (sym (getD-set-other first j i below 0 ne)) (h .made i (omega arith)) ];
+      | inl e ↦ subst (λ z. Splits (getD (set first j below) z 0) z) (sym e) (subst (λ z. Splits z j) (sym (getD-set-same first j below 0 lt)) s)
+      | inr ne ↦ subst (λ z. Splits z i) (sym (getD-set-other first j i below 0 ne)) (h .made i (omega arith))
+    ];
   }
 
   pub indexing-all : (first : List ℕ) (below j : ℕ) → j ≡ net .nodes + 1 → suc (net .nodes) ≤ length first → Indexing first below j → Indexed net first

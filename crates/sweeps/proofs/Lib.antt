@@ -7,3 +7,5 @@ pub mod Looping
 pub mod Standing
 pub mod Checking
 pub mod Ranking
+pub mod Rings
+pub mod Wholes

@@ -75,7 +75,8 @@ module _ {V : Type 0} (m : Algebra V) (net : Network V) (k : ℕ) where
       goes = λ t b s room ready are. record {
         table = t;
         made = ap (λ z. sweep-up m net k s z t) (let z : 0 ≡ j - 1 = omega arith in z);
-        going = going-none m net k t (b + (j - 1)) (λ i. j ≤ i) v0 c0 (subst (λ z. Ready m k z t) (omega arith) ready) are };
+        going = going-none m net k t (b + (j - 1)) (λ i. j ≤ i) v0 c0 (subst (λ z. Ready m k z t) (omega arith) ready) are;
+      };
     }
 
     pub up-more : (v v′ : List V) (c c′ : List ℕ) (moved changed changed′ : Bool) (j j′ : ℕ) → j′ ≡ j + 1 → 1 ≤ j → j ≤ net .nodes → Marks moved changed changed′ → Up v0 c0 v c changed j → NodeWorked m net k false j v c v′ c′ moved → Up v0 c0 v′ c′ changed′ j′

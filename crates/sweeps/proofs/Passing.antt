@@ -32,27 +32,30 @@ module _ {V : Type 0} (n k j : ℕ) (v v′ : List V) (counts counts′ : List �
     rows = is .size ∙ shape .rows;
     nodes = ap length written ∙ length-set counts (j - 1) count ∙ shape .nodes;
     full = λ i. elim (cases-eq i (j - 1)) [
-        inl e ↦ omega (arith, ap (λ z. getD counts′ z 0) e, count-here, is .bound)
-      | inr ne ↦ omega (arith, count-there i ne, shape .full i) ];
+      | inl e ↦ omega (arith, ap (λ z. getD counts′ z 0) e, count-here, is .bound)
+      | inr ne ↦ omega (arith, count-there i ne, shape .full i)
+    ];
   }
 
   rows-kept : (m : Algebra V) (t : Table V) (new : List V) → row .0 ≡ new → RowsFill m n k v counts t → RowsFill m n k v′ counts′ (put t j new)
   rows-kept m t new e h = record {
     shape = shape-kept;
     at = λ i first last. elim (cases-eq i j) [
-        inl same ↦ ap (λ z. row-of k z v′ counts′) same ∙ ap (λ z. take z (cells k j v′)) count-here ∙ ap (λ (z : Marked V). z .0) (is .lengths) ∙ e ∙ sym (ap (put t j new) same ∙ put-here t j new)
+      | inl same ↦ ap (λ z. row-of k z v′ counts′) same ∙ ap (λ z. take z (cells k j v′)) count-here ∙ ap (λ (z : Marked V). z .0) (is .lengths) ∙ e ∙ sym (ap (put t j new) same ∙ put-here t j new)
       | inr ne ↦
           ap (λ z. take z (cells k i v′)) (count-there (i - 1) (omega arith))
           ∙ ap (λ z. take (getD counts (i - 1) 0) z) (other-cells k i j v v′ first one ne (is .before) (is .after))
           ∙ h .at i first last
-          ∙ sym (put-there t j new i ne) ];
+          ∙ sym (put-there t j new i ne)
+    ];
     rest = λ i first last. elim (cases-eq i j) [
-        inl same ↦ subst (λ z. drop (getD counts′ (z - 1) 0) (cells k z v′) ≡ replicate (k - getD counts′ (z - 1) 0) (m .null)) (sym same) rest-here
+      | inl same ↦ subst (λ z. drop (getD counts′ (z - 1) 0) (cells k z v′) ≡ replicate (k - getD counts′ (z - 1) 0) (m .null)) (sym same) rest-here
       | inr ne ↦
           ap (λ z. drop z (cells k i v′)) (count-there (i - 1) (omega arith))
           ∙ ap (λ z. drop (getD counts (i - 1) 0) z) (other-cells k i j v v′ first one ne (is .before) (is .after))
           ∙ h .rest i first last
-          ∙ ap (λ z. replicate (k - z) (m .null)) (sym (count-there (i - 1) (omega arith))) ];
+          ∙ ap (λ z. replicate (k - z) (m .null)) (sym (count-there (i - 1) (omega arith)))
+    ];
   }
     where
       rest-here : drop (getD counts′ (j - 1) 0) (cells k j v′) ≡ replicate (k - getD counts′ (j - 1) 0) (m .null)
@@ -94,9 +97,8 @@ module _ {V : Type 0} (m : Algebra V) (net : Network V) (k : ℕ) (t : Table V) 
 
   module _ (laws : Laws m) (s : ℕ) (down : Bool) (formed : WellFormed m net) (b : ℕ) (room : b + 1 ≤ 10 ^ 9) (Ahead Ahead′ : ℕ → Type 0) (fewer : (i : ℕ) → Ahead′ i → Ahead i)
       (j : ℕ) (ahead : Ahead j) (done : Ahead′ j → ⊥) (one : 1 ≤ j) (le : j ≤ net .nodes) (v v′ : List V) (c c′ : List ℕ) (moved : Bool) (t′ : Table V) where
-
     pub going-more : (changed changed′ : Bool) → ((moved ≡ true) × (changed′ ≡ true)) ⊎ ((moved ≡ false) × (changed′ ≡ changed)) → Going b Ahead v c changed t′ → NodeWorked m net k down j v c v′ c′ moved
-      → Going (b + 1) Ahead′ v′ c′ changed′ (work m net k s down t′ j)
+        → Going (b + 1) Ahead′ v′ c′ changed′ (work m net k s down t′ j)
     going-more changed changed′ way h w =
         let e = node-goes laws net k s formed b room t′ (h .ready) down j v c (h .are) one le (net .arcs) (omega arith) in
         record {
@@ -108,13 +110,16 @@ module _ {V : Type 0} (m : Algebra V) (net : Network V) (k : ℕ) (t : Table V) 
       where
         other : (i : ℕ) → (i ≡ j → ⊥) → work m net k s down t′ j i ≡ t′ i
         other i ne = put-there t′ j (gather m net k s down t′ j (net .arcs)) i ne
+
         here : work m net k s down t′ j j ≡ gather m net k s down t′ j (net .arcs)
         here = put-here t′ j (gather m net k s down t′ j (net .arcs))
+
         still : (f : Bool) → (gather m net k s down t′ j (net .arcs) ≡ t′ j) → Turned (net .nodes) t t′ Ahead f → Turned (net .nodes) t (work m net k s down t′ j) Ahead′ f
         still false e g = λ i. elim (cases-eq i j) [ inl z ↦ ap (work m net k s down t′ j) z ∙ here ∙ e ∙ ap t′ (sym z) ∙ g i | inr ne ↦ other i ne ∙ g i ]
         still true e g = (g .0, (λ a. g .1 (fewer (g .0) a)), g .2, g .3, λ z. g .4 (sym (other (g .0) (λ y. g .1 (subst Ahead (sym y) ahead))) ∙ z))
+
         turn : ((moved ≡ true) × (changed′ ≡ true)) ⊎ ((moved ≡ false) × (changed′ ≡ changed)) → Since laws k (t′ j) (gather m net k s down t′ j (net .arcs)) moved → Turned (net .nodes) t t′ Ahead changed
-          → Turned (net .nodes) t (work m net k s down t′ j) Ahead′ changed′
+            → Turned (net .nodes) t (work m net k s down t′ j) Ahead′ changed′
         turn (inl p) since g =
             let apart = since-tells laws k (t′ j) (gather m net k s down t′ j (net .arcs)) (subst (Since laws k (t′ j) (gather m net k s down t′ j (net .arcs))) (p .0) since) in
             subst (Turned (net .nodes) t (work m net k s down t′ j) Ahead′) (sym (p .1)) (j, done, one, le, λ z. apart (sym here ∙ z ∙ sym (h .same j ahead)))

@@ -110,15 +110,16 @@ module _ {V : Type 0} (m : Algebra V) where
         record {
           low = omega arith;
           all = λ p lt. elim (cases-eq p i) [
-              inl e ↦ ap (λ z. m .compare x z) (ap (λ n. getD row0 n x) e ∙ getD-default row0 i x d (omega arith)) ∙ greater
-            | inr ne ↦ h .all p (omega arith) ];
+            | inl e ↦ ap (λ z. m .compare x z) (ap (λ n. getD row0 n x) e ∙ getD-default row0 i x d (omega arith)) ∙ greater
+            | inr ne ↦ h .all p (omega arith)
+          ];
         }
 
     pub next-less : (i : ℕ) (d e : V) → i < count → false ≡ is-after (m .compare x (getD row0 i d)) → false ≡ is-same (m .compare x (getD row0 i e)) → m .compare x (getD row0 i x) ≡ Less
     next-less i d e below after same =
         tells-before _
-            (after ∙ ap (λ z. is-after (m .compare x z)) (getD-default row0 i d x (omega arith)))
-            (same ∙ ap (λ z. is-same (m .compare x z)) (getD-default row0 i e x (omega arith)))
+        (after ∙ ap (λ z. is-after (m .compare x z)) (getD-default row0 i d x (omega arith)))
+        (same ∙ ap (λ z. is-same (m .compare x z)) (getD-default row0 i e x (omega arith)))
 
     pub placed-same : (i : ℕ) (d : V) → Past row0 count x i → i < count → m .compare x (getD row0 i d) ≡ Equal → RowPlaced m row0 count was x row0 count was
     placed-same i d h below equal =
@@ -128,18 +129,18 @@ module _ {V : Type 0} (m : Algebra V) where
           grows = omega arith;
           bound = fits;
           lengths = sym (placed-past i h
-            ∙ ap (λ l. take i row0 ++ place m (length row0 - i) x l) (next i below)
-            ∙ ap (λ l. take i row0 ++ l) (stays-same (length row0 - i) x (getD row0 i x) D (omega arith) same ∙ sym (next i below))
-            ∙ ap (λ l. l ++ drop i (take count row0)) (sym (take-take i count row0 (h .low)))
-            ∙ take-append-drop i (take count row0));
+              ∙ ap (λ l. take i row0 ++ place m (length row0 - i) x l) (next i below)
+              ∙ ap (λ l. take i row0 ++ l) (stays-same (length row0 - i) x (getD row0 i x) D (omega arith) same ∙ sym (next i below))
+              ∙ ap (λ l. l ++ drop i (take count row0)) (sym (take-take i count row0 (h .low)))
+              ∙ take-append-drop i (take count row0));
           rest = refl;
           flag = sym (ap (λ b. was || b) (freshly i h
-            ∙ ap (fresh m (ltb count (length row0)) x) (next i below)
-            ∙ ap (λ o. choose o true false (fresh m (ltb count (length row0)) x D)) same) ∙ or-false was);
+              ∙ ap (fresh m (ltb count (length row0)) x) (next i below)
+              ∙ ap (λ o. choose o true false (fresh m (ltb count (length row0)) x D)) same) ∙ or-false was);
         }
 
     comes-in : (at : ℕ) → Past row0 count x at → place m (length row0 - at) x (drop at (take count row0)) ≡ take (length row0 - at) (x ∷ drop at (take count row0))
-      → place m (length row0) x (take count row0) ≡ take (length row0) (take at row0 ++ x ∷ drop at (take count row0))
+        → place m (length row0) x (take count row0) ≡ take (length row0) (take at row0 ++ x ∷ drop at (take count row0))
     comes-in at h e =
         let n : length (take at row0) ≡ at = length-take at row0 ∙ omega (arith, h .low) in
         let f : length (take at row0) + (length row0 - at) ≡ length row0 = omega (arith, h .low) in
@@ -150,7 +151,7 @@ module _ {V : Type 0} (m : Algebra V) where
 
     pub lands : (at : ℕ) → Past row0 count x at → (at < count → m .compare x (getD row0 at x) ≡ Less) → Lands row0 count x at
     lands at h less = elim (cases-lt at count) [
-        inl below ↦
+      | inl below ↦
           let D : List V = drop (at + 1) (take count row0) in
           record {
             low = h .low;
@@ -163,7 +164,8 @@ module _ {V : Type 0} (m : Algebra V) where
             low = h .low;
             comes = comes-in at h (ap (place m (length row0 - at) x) none ∙ lands-none (length row0 - at) x ∙ ap (λ l. take (length row0 - at) (x ∷ l)) (sym none));
             told = freshly at h ∙ ap (fresh m (ltb count (length row0)) x) none ∙ ap (λ b. b || ltb count (length row0)) (sym (le-ltb at count over));
-          } ]
+          }
+    ]
 
     pub shifts-none : (at : ℕ) → at ≤ count → Shifts row0 at x at row0 x
     shifts-none at le = record { size = refl; ahead = refl; moved = ap (λ l. take at row0 ++ x ∷ l) (sym (drop-all at (take at row0) (omega (arith, length-take at row0)))) }
@@ -183,9 +185,9 @@ module _ {V : Type 0} (m : Algebra V) where
           size = length-set row i carry ∙ h .size;
           ahead = drop-set-lt (i + 1) row i carry past ∙ tails;
           moved =
-            ap (λ l. l ++ y ∷ []) (take-more-set row i carry lt ∙ h .moved)
-            ∙ append-assoc (take at row0) (x ∷ drop at (take i row0)) (y ∷ [])
-            ∙ ap (λ l. take at row0 ++ x ∷ l) (sym (drop-append-le at (take i row0) (y ∷ []) enough)
+              ap (λ l. l ++ y ∷ []) (take-more-set row i carry lt ∙ h .moved)
+              ∙ append-assoc (take at row0) (x ∷ drop at (take i row0)) (y ∷ [])
+              ∙ ap (λ l. take at row0 ++ x ∷ l) (sym (drop-append-le at (take i row0) (y ∷ []) enough)
               ∙ ap (λ z. drop at (take i row0 ++ z ∷ [])) (read ∙ heads) ∙ ap (drop at) (sym (take-more row0 i y lt0)));
         }
 

@@ -38,27 +38,30 @@ module _ {V : Type 0} (m : Algebra V) (net : Network V) (k : ℕ) (values : List
   climbs-more order ranks total i lt none h open-to = record {
     total = omega (arith, h .total, left-set ranks i total lt none, ap (λ z. left (set ranks i z)) (add-one total), length-set ranks i (total + 1));
     high = λ j. elim (cases-eq j i) [
-        inl e ↦ omega (arith, ap (λ z. getD (set ranks i (total + 1)) z 0) e, here)
-      | inr ne ↦ omega (arith, there j ne, h .high j) ];
+      | inl e ↦ omega (arith, ap (λ z. getD (set ranks i (total + 1)) z 0) e, here)
+      | inr ne ↦ omega (arith, there j ne, h .high j)
+    ];
     up = λ a one low t held.
         let p = order .proper a one low in
         elim (cases-eq (net .end a - 1) i) [
-          inl same ↦
-            let f : 1 ≤ getD ranks (net .start a - 1) 0 = open-to a one low t (omega (arith, p .end-low)) in
-            let ne : net .start a - 1 ≡ i → ⊥ = λ z. omega (arith, ap (λ y. getD ranks y 0) z) in
-            let s = there (net .start a - 1) ne in
-            let b = h .high (net .start a - 1) in
-            (omega arith, omega (arith, ap (λ z. getD (set ranks i (total + 1)) z 0) same, here))
-        | inr apart ↦
-            let kept = there (net .end a - 1) apart in
-            let f = h .up a one low t (omega arith) in
-            let ne : net .start a - 1 ≡ i → ⊥ = λ z. omega (arith, f .0, ap (λ y. getD ranks y 0) z) in
-            let s = there (net .start a - 1) ne in
-            (omega (arith, f .0), omega (arith, f .1)) ];
+          | inl same ↦
+              let f : 1 ≤ getD ranks (net .start a - 1) 0 = open-to a one low t (omega (arith, p .end-low)) in
+              let ne : net .start a - 1 ≡ i → ⊥ = λ z. omega (arith, ap (λ y. getD ranks y 0) z) in
+              let s = there (net .start a - 1) ne in
+              let b = h .high (net .start a - 1) in
+              (omega arith, omega (arith, ap (λ z. getD (set ranks i (total + 1)) z 0) same, here))
+          | inr apart ↦
+              let kept = there (net .end a - 1) apart in
+              let f = h .up a one low t (omega arith) in
+              let ne : net .start a - 1 ≡ i → ⊥ = λ z. omega (arith, f .0, ap (λ y. getD ranks y 0) z) in
+              let s = there (net .start a - 1) ne in
+              (omega (arith, f .0), omega (arith, f .1))
+        ];
   }
     where
       here : getD (set ranks i (total + 1)) i 0 ≡ total + 1
       here = getD-set-same ranks i (total + 1) 0 lt
+
       there : (j : ℕ) → (j ≡ i → ⊥) → getD (set ranks i (total + 1)) j 0 ≡ getD ranks j 0
       there j ne = getD-set-other ranks i j (total + 1) 0 ne
 
@@ -76,8 +79,9 @@ module _ {V : Type 0} (m : Algebra V) (net : Network V) (k : ℕ) (values : List
     climbs = h .climbs;
     grows = h .grows;
     still = λ e j lt z. elim (cases-eq j i) [
-        inl same ↦ subst (λ y. Blocked m net k values counts ranks (y + 1)) (sym same) (here (ap (λ y. getD ranks y 0) (sym same) ∙ z))
-      | inr ne ↦ h .still e j (omega arith) z ];
+      | inl same ↦ subst (λ y. Blocked m net k values counts ranks (y + 1)) (sym same) (here (ap (λ y. getD ranks y 0) (sym same) ∙ z))
+      | inr ne ↦ h .still e j (omega arith) z
+    ];
   }
 
   pub part-held : (ranked : ℕ) (ranks : List ℕ) (total i : ℕ) → Part ranked ranks total i → (getD ranks i 0 ≡ 0 → ⊥) → Part ranked ranks total (i + 1)

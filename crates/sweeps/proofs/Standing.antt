@@ -48,14 +48,16 @@ module _ {V : Type 0} (m : Algebra V) (net : Network V) (k s : ℕ) (bounds : Bo
         rows = ap length blank ∙ length-replicate (net .nodes * k) (m .null);
         nodes = ap length one ∙ length-set (replicate (net .nodes) 0) (s - 1) 1 ∙ length-replicate (net .nodes) 0;
         full = λ i. elim (cases-eq i (s - 1)) [
-            inl e ↦ omega (arith, ap (λ z. getD c z 0) e, here, bounds .k-low)
-          | inr ne ↦ omega (arith, there i ne) ];
+          | inl e ↦ omega (arith, ap (λ z. getD c z 0) e, here, bounds .k-low)
+          | inr ne ↦ omega (arith, there i ne)
+        ];
       };
       at = λ i first last. elim (cases-eq i s) [
-          inl e ↦
+        | inl e ↦
             ap (λ z. take (getD c (z - 1) 0) (cells k i v)) e ∙ ap (λ z. take z (cells k i v)) here ∙ ap (take 1) (cells-are i first last) ∙ take-replicate 1 k (m .null) (bounds .k-low)
             ∙ sym (ap (put (λ j. []) s (m .null ∷ [])) e ∙ put-here (λ j. []) s (m .null ∷ []))
-        | inr ne ↦ ap (λ z. take z (cells k i v)) (there (i - 1) (omega (arith, bounds .s-low))) ∙ sym (put-there (λ j. []) s (m .null ∷ []) i ne) ];
+        | inr ne ↦ ap (λ z. take z (cells k i v)) (there (i - 1) (omega (arith, bounds .s-low))) ∙ sym (put-there (λ j. []) s (m .null ∷ []) i ne)
+      ];
       rest = λ i first last. ap (drop (getD c (i - 1) 0)) (cells-are i first last) ∙ drop-replicate (getD c (i - 1) 0) k (m .null);
     }
 
@@ -100,8 +102,9 @@ module _ {V : Type 0} (m : Algebra V) (net : Network V) (k s : ℕ) (bounds : Bo
             are = gone .are;
             ready = subst (λ b. Ready m k b (rows m net k s (suc done))) (omega arith) (gone .ready);
             loud = λ q two le z. elim (cases-eq q (suc done)) [
-                inl same ↦ still-loud why (omega arith) (subst (Unchanged net (rows m net k s)) same z)
-              | inr ne ↦ h .loud q two (omega arith) z ];
+              | inl same ↦ still-loud why (omega arith) (subst (Unchanged net (rows m net k s)) same z)
+              | inr ne ↦ h .loud q two (omega arith) z
+            ];
           })
 
       pub stands-ends : (done′ : ℕ) → done′ ≡ done + 1 → 2 ≤ done′ → changed ≡ false → AtRest m net k s done′ v′ c′

@@ -46,12 +46,13 @@ module _ {V : Type 0} where
 
   -- the cell p of row i is as it was, when only row j was written
   pub other-row : (k i j p : ℕ) (v v′ : List V) (a : V) → 1 ≤ i → 1 ≤ j → ¬ (i ≡ j) → p < k
-    → take (start-of k j) v′ ≡ take (start-of k j) v → drop (start-of k j + k) v′ ≡ drop (start-of k j + k) v
-    → getD v′ (start-of k i + p) a ≡ getD v (start-of k i + p) a
+      → take (start-of k j) v′ ≡ take (start-of k j) v → drop (start-of k j + k) v′ ≡ drop (start-of k j + k) v
+      → getD v′ (start-of k i + p) a ≡ getD v (start-of k i + p) a
   other-row k i j p v v′ a oi oj ne lt before after =
       elim (apart-cases i j ne) [
-        inl l ↦ kept-below (start-of k j) (start-of k i + p) v v′ a (omega (arith, row-below k i j oi l)) before
-      | inr g ↦ kept-above (start-of k j + k) (start-of k i + p) v v′ a (omega (arith, row-below k j i oj g)) after ]
+        | inl l ↦ kept-below (start-of k j) (start-of k i + p) v v′ a (omega (arith, row-below k i j oi l)) before
+        | inr g ↦ kept-above (start-of k j + k) (start-of k i + p) v v′ a (omega (arith, row-below k j i oj g)) after
+      ]
 
   pub cell-of : (k i p : ℕ) (v : List V) (a : V) → p < k → getD (cells k i v) p a ≡ getD v (start-of k i + p) a
   cell-of k i p v a lt = getD-take k (drop (start-of k i) v) p a lt ∙ getD-drop (start-of k i) v p a
@@ -62,7 +63,7 @@ module _ {V : Type 0} where
 module _ {V : Type 0} (m : Algebra V) (k i held j count : ℕ) (was : Bool) (x : V) (v0 : List V) (two : TwoRows k i held j count (length v0)) where
   -- the length that is read is the one that row i held at first
   next-of : (p total : ℕ) (changed : Bool) (v : List V) (a : V) → p < held → ArcWorked m k i p j count was x v0 v total changed → a ≡ getD v (start-of k i + p) a
-    → worked m k x (take count (cells k j v0), was) (take (p + 1) (cells k i v0)) ≡ carried m k x (take total (cells k j v), changed) a
+      → worked m k x (take count (cells k j v0), was) (take (p + 1) (cells k i v0)) ≡ carried m k x (take total (cells k j v), changed) a
   next-of p total changed v a lt h read =
       let below : p < k = omega (arith, two .from-held) in
       let long : p < length (cells k i v0) = omega (arith, cells-long k i v0 (two .from-one) (two .from-in)) in
@@ -72,7 +73,7 @@ module _ {V : Type 0} (m : Algebra V) (k i held j count : ℕ) (was : Bool) (x :
       ∙ ap (λ z. carried m k x (take total (cells k j v), changed) z) is
 
   pub worked-none : (p total : ℕ) (changed : Bool) (v : List V) (a : V) → p < held → ArcWorked m k i p j count was x v0 v total changed → a ≡ getD v (start-of k i + p) a
-    → joined m a x ≡ None → ArcWorked m k i (p + 1) j count was x v0 v total changed
+      → joined m a x ≡ None → ArcWorked m k i (p + 1) j count was x v0 v total changed
   worked-none p total changed v a lt h read absent =
       record {
         bound = h .bound;
@@ -85,8 +86,8 @@ module _ {V : Type 0} (m : Algebra V) (k i held j count : ℕ) (was : Bool) (x :
       }
 
   pub worked-some : (p total : ℕ) (changed : Bool) (v : List V) (a y : V) (n : ℕ) (row′ : List V) (total′ : ℕ) (changed′ : Bool) → p < held → ArcWorked m k i p j count was x v0 v total changed → a ≡ getD v (start-of k i + p) a
-    → joined m a x ≡ Some y → n ≡ k → length (putMid (start-of k j) n v row′) ≡ length v → length row′ ≡ length (take n (drop (start-of k j) v)) → RowPlaced m (take n (drop (start-of k j) v)) total changed y row′ total′ changed′
-    → ArcWorked m k i (p + 1) j count was x v0 (putMid (start-of k j) n v row′) total′ changed′
+      → joined m a x ≡ Some y → n ≡ k → length (putMid (start-of k j) n v row′) ≡ length v → length row′ ≡ length (take n (drop (start-of k j) v)) → RowPlaced m (take n (drop (start-of k j) v)) total changed y row′ total′ changed′
+      → ArcWorked m k i (p + 1) j count was x v0 (putMid (start-of k j) n v row′) total′ changed′
   worked-some p total changed v a y n row′ total′ changed′ lt h read present whole size size′ put =
       let s : ℕ = start-of k j in
       let v′ : List V = putMid s n v row′ in
@@ -104,16 +105,16 @@ module _ {V : Type 0} (m : Algebra V) (k i held j count : ℕ) (was : Bool) (x :
         grows = omega (arith, h .grows, put .grows);
         bound = omega (arith, put .bound);
         lengths = ap (λ (z : List V). (z, changed′)) (ap (take total′) now-is ∙ put .lengths
-          ∙ ap (λ z. place m z y (take total row)) long
-          ∙ ap (λ z. place m k y (take total z)) row-is)
-          ∙ ap (λ (b : Bool). (place m k y (take total (cells k j v)), b)) (put .flag
-          ∙ ap (λ z. changed || fresh m (ltb total z) y (take total row)) long
-          ∙ ap (λ z. changed || fresh m (ltb total k) y (take total z)) row-is
-          ∙ ap (λ z. changed || fresh m (ltb z k) y (take total (cells k j v))) (sym held-is))
-          ∙ sym (next-of p total changed v a lt h read ∙ ap (λ (o : Option V). elim o [ Some z ↦ stepped m k x z (take total (cells k j v), changed) | None ↦ (take total (cells k j v), changed) ]) present);
+            ∙ ap (λ z. place m z y (take total row)) long
+            ∙ ap (λ z. place m k y (take total z)) row-is)
+            ∙ ap (λ (b : Bool). (place m k y (take total (cells k j v)), b)) (put .flag
+            ∙ ap (λ z. changed || fresh m (ltb total z) y (take total row)) long
+            ∙ ap (λ z. changed || fresh m (ltb total k) y (take total z)) row-is
+            ∙ ap (λ z. changed || fresh m (ltb z k) y (take total (cells k j v))) (sym held-is))
+            ∙ sym (next-of p total changed v a lt h read ∙ ap (λ (o : Option V). elim o [ Some z ↦ stepped m k x z (take total (cells k j v), changed) | None ↦ (take total (cells k j v), changed) ]) present);
         rest = ap (drop total′) now-is ∙ put .rest ∙ ap (drop total′) row-is
-          ∙ ap (λ z. drop z (cells k j v)) (sym e) ∙ sym (drop-drop (total′ - total) total (cells k j v))
-          ∙ ap (drop (total′ - total)) (h .rest) ∙ drop-drop (total′ - total) total (cells k j v0) ∙ ap (λ z. drop z (cells k j v0)) e;
+            ∙ ap (λ z. drop z (cells k j v)) (sym e) ∙ sym (drop-drop (total′ - total) total (cells k j v))
+            ∙ ap (drop (total′ - total)) (h .rest) ∙ drop-drop (total′ - total) total (cells k j v0) ∙ ap (λ z. drop z (cells k j v0)) e;
         size = size ∙ h .size;
         before = take-putMid-below s n v row′ s (omega arith) inside ∙ h .before;
         after = drop-putMid s n v row′ (s + k) (omega arith) inside (long′ ∙ sym whole) ∙ h .after;

@@ -60,8 +60,8 @@ module _ {V : Type 0} {m : Algebra V} (laws : Laws m) (net : Network V) (t : Tab
   tight-test a h =
       and-from (net .is-open a) (carries m net t (t (net .start a)) (net .arc-length a) (t (net .end a))) (h .is-open .marked)
       (ap (λ r. carries m net t r (net .arc-length a) (t (net .end a))) (h .start .is)
-        ∙ ap (λ r. carries m net t (h .there ∷ h .start .rest) (net .arc-length a) r) (h .end .is)
-        ∙ carries-from (h .there) (net .arc-length a) (h .here) (h .start .rest) (h .end .rest) (h .sum))
+      ∙ ap (λ r. carries m net t (h .there ∷ h .start .rest) (net .arc-length a) r) (h .end .is)
+      ∙ carries-from (h .there) (net .arc-length a) (h .here) (h .start .rest) (h .end .rest) (h .sum))
 
   -- a tight arc to j, of the arcs 1 to n, from a node without a mark
   record Uncleared (mark : ℕ → Bool) (j n : ℕ) : Type 0 where
@@ -76,6 +76,7 @@ module _ {V : Type 0} {m : Algebra V} (laws : Laws m) (net : Network V) (t : Tab
     where
       wider : Uncleared mark j n → Uncleared mark j (suc n)
       wider u = record { arc = u .arc; tight = u .tight; into = u .into; from = u .from }
+
       go : (b : Bool) → (is-tight m net t (suc n) && eqb (net .end (suc n)) j) ≡ b → (c : Bool) → mark (net .start (suc n)) ≡ c → (implies m net t b c && cleared m net t mark j n) ≡ false → (cleared m net t mark j n ≡ false → Uncleared mark j n) → Uncleared mark j (suc n)
       go false e c f q ih = wider (ih q)
       go true e true f q ih = wider (ih q)
@@ -89,8 +90,10 @@ module _ {V : Type 0} {m : Algebra V} (laws : Laws m) (net : Network V) (t : Tab
     where
       parts : (implies m net t (is-tight m net t (suc n) && eqb (net .end (suc n)) j) (mark (net .start (suc n))) ≡ true) × (cleared m net t mark j n ≡ true)
       parts = and-parts (implies m net t (is-tight m net t (suc n) && eqb (net .end (suc n)) j) (mark (net .start (suc n)))) (cleared m net t mark j n) h
+
       holds : a ≡ suc n → (is-tight m net t (suc n) && eqb (net .end (suc n)) j) ≡ true
       holds f = and-from (is-tight m net t (suc n)) (eqb (net .end (suc n)) j) (subst (λ b. is-tight m net t b ≡ true) f (tight-test a q)) (eq-eqb (net .end (suc n)) j (ap (λ b. net .end b) (sym f) ∙ e))
+
       go : Dec (a ≡ suc n) → (a ≤ n → mark (net .start a) ≡ true) → mark (net .start a) ≡ true
       go (yes f) ih = subst (λ b. mark (net .start b) ≡ true) (sym f) (subst (λ b. implies m net t b (mark (net .start (suc n))) ≡ true) (holds f) (parts .0))
       go (no f) ih = ih (omega arith)
@@ -149,6 +152,7 @@ module _ {V : Type 0} {m : Algebra V} (laws : Laws m) (net : Network V) (t : Tab
     where
       parts : (marked m net t (net .nodes) (suc n) ≡ true) × (all-marked m net t n ≡ true)
       parts = and-parts (marked m net t (net .nodes) (suc n)) (all-marked m net t n) h
+
       go : Dec (j ≡ suc n) → (j ≤ n → marked m net t (net .nodes) j ≡ true) → marked m net t (net .nodes) j ≡ true
       go (yes e) ih = subst (λ i. marked m net t (net .nodes) i ≡ true) (sym e) (parts .0)
       go (no e) ih = ih (omega arith)
@@ -184,14 +188,19 @@ module _ {V : Type 0} {m : Algebra V} {net : Network V} {k s : ℕ} (laws : Laws
     where
       t : Table V
       t = rows m net (suc k) s (suc (suc q))
+
       room : suc (suc q) * net .nodes * 10 ^ 9 + net .nodes * 10 ^ 9 ≤ 2 ^ 62
       room = let z = small laws g (suc (suc (suc q))) (omega (arith, h .in-time)) in omega arith
+
       none : ¬ NegativeCircuit m net s
       none = none-reached laws g q (h .in-time) (h .unchanged)
+
       all : (j : ℕ) (w : List ℕ) → Walk net s j w → Counted m net w → Covers m (suc k) (t j) (walk-length m net w)
       all = complete laws g q (h .in-time) (h .unchanged)
+
       to : NullCircuit m net s → Ring m net t
       to = null-ring laws net (g .formed) s k (suc (suc q) * net .nodes) (g .s-low) (g .s-high) none t room (sound laws g (suc (suc q))) all
+
       back : Ring m net t → NullCircuit m net s
       back = ring-null laws net (g .formed) s k (suc (suc q) * net .nodes) (g .s-low) (g .s-high) none t room (sound laws g (suc (suc q))) all
 

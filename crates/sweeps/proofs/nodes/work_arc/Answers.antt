@@ -13,12 +13,13 @@ loop-p-again g c =
     let p = c .args in
     let l = c .loop-p in
     elim (c .match-join .came) [
-      in-Some w ↦
-        let whole : start-of (c .args .k) (c .args .to) + c .args .k - start-of (c .args .k) (c .args .to) ≡ c .args .k = omega arith in
-        simp (w .values-is, w .total-is, w .changed-is)
-        (worked-some m (p .k) (p .from) (p .held) (p .to) (p .count) (p .was) (p .x) (p .values .now) (c .pre) (l .p) (l .total) (l .changed) (l .values) _ _ _ _ _ _
+      | in-Some w ↦
+          let whole : start-of (c .args .k) (c .args .to) + c .args .k - start-of (c .args .k) (c .args .to) ≡ c .args .k = omega arith in
+          simp (w .values-is, w .total-is, w .changed-is)
+          (worked-some m (p .k) (p .from) (p .held) (p .to) (p .count) (p .was) (p .x) (p .values .now) (c .pre) (l .p) (l .total) (l .changed) (l .values) _ _ _ _ _ _
           (c .loop-p-test .taken) (l .inv) (c .index-values-source .is) (sym (c .join .ensures) ∙ w .in-Some .is) whole (sym (ap length (w .values-is)) ∙ c .match-join .kept .values) (w .place-placed .kept .row) (w .place-placed .ensures))
-    | in-rest w ↦
-        simp (w .values-is, w .total-is, w .changed-is)
-        (worked-none m (p .k) (p .from) (p .held) (p .to) (p .count) (p .was) (p .x) (p .values .now) (c .pre) (l .p) (l .total) (l .changed) (l .values) _
-          (c .loop-p-test .taken) (l .inv) (c .index-values-source .is) (sym (c .join .ensures) ∙ w .in-rest .is)) ]
+      | in-rest w ↦
+          simp (w .values-is, w .total-is, w .changed-is)
+          (worked-none m (p .k) (p .from) (p .held) (p .to) (p .count) (p .was) (p .x) (p .values .now) (c .pre) (l .p) (l .total) (l .changed) (l .values) _
+          (c .loop-p-test .taken) (l .inv) (c .index-values-source .is) (sym (c .join .ensures) ∙ w .in-rest .is))
+    ]

@@ -36,13 +36,14 @@ loop-a-again g c =
     let lt : c .loop-a .a < length (c .args .lengths .now) = omega (arith, b .inside) in
     let way = uses-taken net (p .down) (p .j) (suc (c .loop-a .a)) (b .into) in
     elim (c .if-taken .came) [
-      then-taken w ↦
-        simp (w .values-is, w .count-is, w .changed-is)
-        (node-more m net (p .k) (p .down) (p .j) (p .values .now) (p .counts .now) (c .loop-a .a) (c .loop-a .count) _ (c .loop-a .changed) _ (c .loop-a .values) _ _ (c .loop-a .inv) (way ∙ sym (c .taken .ensures) ∙ w .if-taken .taken)
+      | then-taken w ↦
+          simp (w .values-is, w .count-is, w .changed-is)
+          (node-more m net (p .k) (p .down) (p .j) (p .values .now) (p .counts .now) (c .loop-a .a) (c .loop-a .count) _ (c .loop-a .changed) _ (c .loop-a .values) _ _ (c .loop-a .inv) (way ∙ sym (c .taken .ensures) ∙ w .if-taken .taken)
           (getD-read (p .lengths .now) (c .loop-a .a) (w .index-lengths-a .result) lt (w .index-lengths-a .is) (m .null)) (b .low) (c .pre .low) (b .apart) (w .work-arc-done .ensures))
-    | else-taken w ↦
-        simp (w .values-is, w .count-is, w .changed-is)
-        (node-skip m net (p .k) (p .down) (p .j) (p .values .now) (p .counts .now) (c .loop-a .a) (c .loop-a .count) (c .loop-a .changed) (c .loop-a .values) (c .loop-a .inv) (way ∙ sym (c .taken .ensures) ∙ w .if-taken .left)) ]
+      | else-taken w ↦
+          simp (w .values-is, w .count-is, w .changed-is)
+          (node-skip m net (p .k) (p .down) (p .j) (p .values .now) (p .counts .now) (c .loop-a .a) (c .loop-a .count) (c .loop-a .changed) (c .loop-a .values) (c .loop-a .inv) (way ∙ sym (c .taken .ensures) ∙ w .if-taken .left))
+    ]
 
 pub returns : need.returns
 returns g c =
@@ -51,6 +52,6 @@ returns g c =
     record {
       count = c .loop-a .count;
       is = node-all (g .M·Measure .algebra) net (c .args .k) (c .args .down) (c .args .j) (c .args .values .now) (c .args .counts .now) (c .args .first .now) (c .pre .known .indexed) (c .pre .low) (c .pre .high)
-        (c .loop-a .a) (c .loop-a .count) (c .loop-a .changed) (c .loop-a .values) (omega arith) (c .loop-a .inv);
+          (c .loop-a .a) (c .loop-a .count) (c .loop-a .changed) (c .loop-a .values) (omega arith) (c .loop-a .inv);
       held = refl;
     }

@@ -18,13 +18,14 @@ loop-i-again g c =
     let p = c .args in
     let net = network m (p .nodes) (p .arcs .now) (p .lengths .now) in
     elim (c .if-ranks-i-eq0 .came) [
-      then-ranks-i-eq0·then-free w ↦
-        simp (w .ranks-is, w .total-is)
-        (part-free m net (p .k) (p .values .now) (p .counts .now) (c .pre .known .ordered) _ _ _ _ (omega arith) (w .if-ranks-i-eq0 .taken) (c .loop-i .inv) (subst (FreeOr m net (p .k) (p .values .now) (p .counts .now) _ _) (w .if-free .taken) (w .free .ensures)))
-    | then-ranks-i-eq0·else-free w ↦
-        simp (w .ranks-is, w .total-is)
-        (part-shut m net (p .k) (p .values .now) (p .counts .now) _ _ _ _ (c .loop-i .inv) (subst (FreeOr m net (p .k) (p .values .now) (p .counts .now) _ _) (w .if-free .left) (w .free .ensures)))
-    | else-ranks-i-eq0 w ↦ simp (w .ranks-is, w .total-is) (part-held m net (p .k) (p .values .now) (p .counts .now) _ _ _ _ (c .loop-i .inv) (w .if-ranks-i-eq0 .left)) ]
+      | then-ranks-i-eq0·then-free w ↦
+          simp (w .ranks-is, w .total-is)
+          (part-free m net (p .k) (p .values .now) (p .counts .now) (c .pre .known .ordered) _ _ _ _ (omega arith) (w .if-ranks-i-eq0 .taken) (c .loop-i .inv) (subst (FreeOr m net (p .k) (p .values .now) (p .counts .now) _ _) (w .if-free .taken) (w .free .ensures)))
+      | then-ranks-i-eq0·else-free w ↦
+          simp (w .ranks-is, w .total-is)
+          (part-shut m net (p .k) (p .values .now) (p .counts .now) _ _ _ _ (c .loop-i .inv) (subst (FreeOr m net (p .k) (p .values .now) (p .counts .now) _ _) (w .if-free .left) (w .free .ensures)))
+      | else-ranks-i-eq0 w ↦ simp (w .ranks-is, w .total-is) (part-held m net (p .k) (p .values .now) (p .counts .now) _ _ _ _ (c .loop-i .inv) (w .if-ranks-i-eq0 .left))
+    ]
 
 pub returns : need.returns
 returns g c = part-all _ _ _ _ _ _ _ _ _ (omega arith) (c .loop-i .inv)

@@ -17,8 +17,9 @@ work-node-moved-requires g c κs = record { shape = c .loop-j .inv .shape; low =
 pub loop-j-again : need.loop-j-again
 loop-j-again g c =
     elim (c .if-moved .came) [
-      then-moved w ↦ down-more _ _ _ (g .M·Measure·met .lawful) (formed-of _ _ (c .pre .known .ordered)) _ _ _ _ _ _ _ _ _ _ _ (omega arith) (omega arith) (inl (w .if-moved .taken, w .changed-is)) (c .loop-j .inv) (c .work-node-moved .ensures)
-    | else-moved w ↦ down-more _ _ _ (g .M·Measure·met .lawful) (formed-of _ _ (c .pre .known .ordered)) _ _ _ _ _ _ _ _ _ _ _ (omega arith) (omega arith) (inr (w .if-moved .left, w .changed-is)) (c .loop-j .inv) (c .work-node-moved .ensures) ]
+      | then-moved w ↦ down-more _ _ _ (g .M·Measure·met .lawful) (formed-of _ _ (c .pre .known .ordered)) _ _ _ _ _ _ _ _ _ _ _ (omega arith) (omega arith) (inl (w .if-moved .taken, w .changed-is)) (c .loop-j .inv) (c .work-node-moved .ensures)
+      | else-moved w ↦ down-more _ _ _ (g .M·Measure·met .lawful) (formed-of _ _ (c .pre .known .ordered)) _ _ _ _ _ _ _ _ _ _ _ (omega arith) (omega arith) (inr (w .if-moved .left, w .changed-is)) (c .loop-j .inv) (c .work-node-moved .ensures)
+    ]
 
 pub returns : need.returns
 returns g c = down-all _ _ _ (g .M·Measure·met .lawful) (formed-of _ _ (c .pre .known .ordered)) _ _ _ _ _ _ (omega arith) (c .loop-j .inv)

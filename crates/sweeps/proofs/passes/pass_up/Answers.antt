@@ -17,8 +17,9 @@ work-node-moved-requires g c κs = record { shape = c .loop-done .inv .shape; lo
 pub loop-done-again : need.loop-done-again
 loop-done-again g c =
     elim (c .if-moved .came) [
-      then-moved w ↦ up-more _ _ _ (g .M·Measure·met .lawful) (formed-of _ _ (c .pre .known .ordered)) _ _ _ _ _ _ _ _ _ _ _ (omega arith) (omega arith) (omega arith) (inl (w .if-moved .taken, w .changed-is)) (c .loop-done .inv) (c .work-node-moved .ensures)
-    | else-moved w ↦ up-more _ _ _ (g .M·Measure·met .lawful) (formed-of _ _ (c .pre .known .ordered)) _ _ _ _ _ _ _ _ _ _ _ (omega arith) (omega arith) (omega arith) (inr (w .if-moved .left, w .changed-is)) (c .loop-done .inv) (c .work-node-moved .ensures) ]
+      | then-moved w ↦ up-more _ _ _ (g .M·Measure·met .lawful) (formed-of _ _ (c .pre .known .ordered)) _ _ _ _ _ _ _ _ _ _ _ (omega arith) (omega arith) (omega arith) (inl (w .if-moved .taken, w .changed-is)) (c .loop-done .inv) (c .work-node-moved .ensures)
+      | else-moved w ↦ up-more _ _ _ (g .M·Measure·met .lawful) (formed-of _ _ (c .pre .known .ordered)) _ _ _ _ _ _ _ _ _ _ _ (omega arith) (omega arith) (omega arith) (inr (w .if-moved .left, w .changed-is)) (c .loop-done .inv) (c .work-node-moved .ensures)
+    ]
 
 pub returns : need.returns
 returns g c = up-all _ _ _ (g .M·Measure·met .lawful) (formed-of _ _ (c .pre .known .ordered)) _ _ _ _ _ _ (omega arith) (c .loop-done .inv)

@@ -18,13 +18,16 @@ pub returns-then-same : need.returns-then-same
 returns-then-same g c = placed-same _ _ _ _ _ (c .pre) _ _ (c .loop-at .inv) (c .if-at-count .taken) (tells-same _ (c .if-same .ensures tt))
 
 pub loop-i-holds : need.loop-i-holds
-loop-i-holds g c =
-    (lands (g .M·Measure .algebra) (c .args .row .now) (c .args .count) (c .args .was) (c .args .x) (c .pre) (c .loop-at .at) (c .loop-at .inv) (λ lt. elim (c .loop-at-test .came) [
-        then-loop-at-test·else-after w ↦ elim (c .else-at-count .came) [
-            else-at-count·by·then-at-count·else-same v ↦ next-less (g .M·Measure .algebra) (c .args .row .now) (c .args .count) (c .args .was) (c .args .x) (c .pre) (c .loop-at .at) (w .index-row-at .result) (v .index-row-at-then-at-count .result) lt (w .if-after .ensures tt) (v .if-same .ensures tt)
-          | else-at-count·by·else-at-count v ↦ absurd (omega (arith, v .if-at-count .left)) ]
-      | else-loop-at-test w ↦ absurd (omega (arith, w .loop-at-test .left)) ])
-    , shifts-none (g .M·Measure .algebra) (c .args .row .now) (c .args .count) (c .args .was) (c .args .x) (c .pre) (c .loop-at .at) (c .loop-at .inv .low))
+loop-i-holds g c = (
+  lands (g .M·Measure .algebra) (c .args .row .now) (c .args .count) (c .args .was) (c .args .x) (c .pre) (c .loop-at .at) (c .loop-at .inv) (λ lt. elim (c .loop-at-test .came) [
+    | then-loop-at-test·else-after w ↦ elim (c .else-at-count .came) [
+      | else-at-count·by·then-at-count·else-same v ↦ next-less (g .M·Measure .algebra) (c .args .row .now) (c .args .count) (c .args .was) (c .args .x) (c .pre) (c .loop-at .at) (w .index-row-at .result) (v .index-row-at-then-at-count .result) lt (w .if-after .ensures tt) (v .if-same .ensures tt)
+      | else-at-count·by·else-at-count v ↦ absurd (omega (arith, v .if-at-count .left))
+    ]
+    | else-loop-at-test w ↦ absurd (omega (arith, w .loop-at-test .left))
+  ]),
+  shifts-none (g .M·Measure .algebra) (c .args .row .now) (c .args .count) (c .args .was) (c .args .x) (c .pre) (c .loop-at .at) (c .loop-at .inv .low),
+)
 
 pub loop-i-again : need.loop-i-again
 loop-i-again g c = (c .loop-i .inv .0, shifts-more _ _ _ (c .args .was) _ (c .pre) _ _ _ _ _ (c .loop-i .kept .i) (c .loop-i-test .taken) (c .index-row-i .is) (c .loop-i .inv .1))

@@ -30,7 +30,8 @@ loop-done-again g c = λ b.
     _ _ refl refl (elim (c .else-done-ge2 .either) [ inl p ↦ inr (p .1) | inr l ↦ inl l ])
 
 pub returns : need.returns
-returns g c =
-    (stands-over (g .M·Measure .algebra) (network (g .M·Measure .algebra) (c .args .nodes) (c .args .arcs .now) (c .args .lengths .now)) (c .args .order .k) (c .args .order .source) (c .pre .bounds) (g .M·Measure·met .lawful) (formed-of _ _ (c .pre .known .ordered))
-      (c .loop-done .values) (c .loop-done .counts) (c .loop-done .done) (c .loop-done .down) (c .loop-done-test .left) (c .loop-done .inv (c .pre .bounds))
-    , cleared-as _ _ _ _ _ _ _ (c .loop-done .inv (c .pre .bounds) .are .shape .rows) (c .loop-done .inv (c .pre .bounds) .are .shape .nodes) (c .clear-2 .ensures))
+returns g c = (
+  stands-over (g .M·Measure .algebra) (network (g .M·Measure .algebra) (c .args .nodes) (c .args .arcs .now) (c .args .lengths .now)) (c .args .order .k) (c .args .order .source) (c .pre .bounds) (g .M·Measure·met .lawful) (formed-of _ _ (c .pre .known .ordered))
+      (c .loop-done .values) (c .loop-done .counts) (c .loop-done .done) (c .loop-done .down) (c .loop-done-test .left) (c .loop-done .inv (c .pre .bounds)),
+  cleared-as _ _ _ _ _ _ _ (c .loop-done .inv (c .pre .bounds) .are .shape .rows) (c .loop-done .inv (c .pre .bounds) .are .shape .nodes) (c .clear-2 .ensures),
+)
