@@ -19,3 +19,5 @@ pub mod Cases
 pub mod Ends
 pub mod Solving
 pub mod Marking
+pub mod Paths
+pub mod Tracing

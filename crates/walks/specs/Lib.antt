@@ -7,4 +7,6 @@ pub mod Runs
 pub mod Solves
 pub mod Theorems
 pub mod Nulls
+pub mod Paths
+pub mod Tracing
 pub mod Cases
