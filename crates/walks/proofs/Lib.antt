@@ -15,6 +15,7 @@ pub mod Traces
 pub mod Tight
 pub mod Once
 pub mod Nulls
+pub mod Reversing
 pub mod Cases
 pub mod Ends
 pub mod Solving

@@ -1,26 +1,25 @@
 -- The order of paths, and how paths run through rows.
-use mathlib.Core.Path.{_≡_, refl, sym, _∙_, ap, ap₂, subst}
+use mathlib.Core.Path.{_≡_, refl, sym, _∙_, ap₂, subst}
 use mathlib.Core.Logic.{_⊎_, inl, inr}
 use mathlib.Core.List.{List, [], _∷_, _++_}
 use Prim.Native.Nat.{ℕ, suc, zero, _+_, _*_, _^_, _≤_, _<_}
 use native.Mathlib.Omega.{arith}
 use native.Mathlib.Decide.{decLt}
-use lib.ListN.{length, length-append}
-use Rattle.measure.specs.Algebra.{Algebra, Laws, Before, Joinable}
-use Rattle.walks.specs.Networks.{Network, Open, WellFormed}
-use Rattle.walks.specs.Walks.{Walk, walk-length, weight, Counted}
-use Rattle.walks.specs.Circuits.{NegativeCircuit, NullCircuit}
-use Rattle.walks.specs.Rows.{Table, In, Covers}
+use lib.ListN.{length}
+use Rattle.measure.specs.Algebra.{Algebra, Laws, Before}
+use Rattle.walks.specs.Networks.{Network}
+use Rattle.walks.specs.Walks.{Walk, walk-length, weight}
+use Rattle.walks.specs.Circuits.{NullCircuit}
+use Rattle.walks.specs.Rows.{Table, In}
 use Rattle.walks.specs.Method.{rows}
-use Rattle.walks.specs.Solves.{settled, outcome}
+use Rattle.walks.specs.Paths.{Sooner, Ahead, PathTo, PathsRunThroughRows, PathsOrdered, PathsInRows}
 use Rattle.walks.specs.Theorems.{Within, Settles}
-use Rattle.walks.specs.Paths.{Sooner, Ahead, TotalOrder, PathTo, PathsRunThroughRows, PathsOrdered, PathsInRows}
 use Rattle.walks.proofs.Orders.{Three, before, same, after, three, never}
-use Rattle.walks.proofs.Lengths.{walk-append, weight-append, magnitude-walk, walk-length-append, weight-small}
+use Rattle.walks.proofs.Lengths.{weight-append, magnitude-walk, walk-length-append}
 use Rattle.walks.proofs.Coverage.{rows-ascending, rows-short}
 use Rattle.walks.proofs.Traces.{part-in, few-arcs}
 use Rattle.walks.proofs.Ends.{settled-is}
-use Rattle.walks.proofs.Solving.{run, sound, none-reached, complete, small, settled-few}
+use Rattle.walks.proofs.Solving.{run, sound, none-reached, complete, small}
 
 pub sooner-not : (w : List ℕ) → Sooner w w → ⊥
 sooner-not [] h = h
@@ -115,10 +114,13 @@ module _ {V : Type 0} {m : Algebra V} {net : Network V} {k s : ℕ} (laws : Laws
     where
       L : List ℕ → V
       L = walk-length m net
+
       total : L (u ++ (a ∷ w)) ≡ m .plus (L (a ∷ w)) (L u)
       total = walk-length-append laws net u (a ∷ w) (r .counted)
+
       flat : m .plus (m .null) (L u) ≡ m .plus (L (a ∷ w)) (L u)
       flat = laws .null-left (L u) ∙ e ∙ total
+
       go : Three m (L (a ∷ w)) (m .null) → weight m net u + weight m net (a ∷ w) ≤ 2 ^ 62 → L (a ∷ w) ≡ m .null
       go (same q) room = q
       go (before l) room =

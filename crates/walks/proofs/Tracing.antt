@@ -1,9 +1,9 @@
 -- The computed list of paths has them all, in order.
-use mathlib.Core.Path.{_≡_, refl, sym, _∙_, ap, ap₂, subst}
+use mathlib.Core.Path.{_≡_, refl, sym, _∙_, ap, subst}
 use mathlib.Core.Logic.{_⊎_, inl, inr}
 use mathlib.Core.Bool.{Bool, true, false, _&&_}
 use mathlib.Core.List.{List, [], _∷_, _++_}
-use Prim.Native.Nat.{ℕ, suc, zero, _+_, _*_, _^_, _≤_, _<_}
+use Prim.Native.Nat.{ℕ, suc, zero, _+_, _*_, _≤_, _<_}
 use native.Mathlib.Nat.{mul-le-mul}
 use native.Mathlib.Omega.{arith}
 use native.Mathlib.Decide.{ℕ-discrete}
@@ -15,17 +15,16 @@ use Rattle.std.specs.declared.cmp.Ordering.the-variants.{Less, Equal, Greater}
 use Rattle.std.specs.declared.option.Option.{Option}
 use Rattle.std.specs.declared.option.Option.the-variants.{Some, None}
 use Rattle.measure.specs.Algebra.{Algebra, Laws, Before, Joinable}
-use Rattle.walks.specs.Networks.{Network, Open, WellFormed}
-use Rattle.walks.specs.Walks.{Walk, walk-length, weight, Counted}
+use Rattle.walks.specs.Networks.{Network, Open}
+use Rattle.walks.specs.Walks.{Walk, walk-length}
 use Rattle.walks.specs.Circuits.{NullCircuit}
-use Rattle.walks.specs.Rows.{Table, In, Above, Ascending}
+use Rattle.walks.specs.Rows.{Table, In, Ascending}
 use Rattle.walks.specs.Method.{choose, rows}
-use Rattle.walks.specs.Solves.{settled, last-pass, outcome}
+use Rattle.walks.specs.Paths.{Sooner, Ahead, PathTo, Since, Follow}
 use Rattle.walks.specs.Theorems.{Within, Settles}
-use Rattle.walks.specs.Paths.{Sooner, Ahead, PathTo, Since, Next, Follow}
 use Rattle.walks.specs.Tracing.{only, each, through, over, empty-walk, walks-of, traced-of, traced, InOrder, ListsPaths, TracedInOrder}
 use Rattle.walks.proofs.Rows.{above-in}
-use Rattle.walks.proofs.Lengths.{magnitude-walk, weight-small}
+use Rattle.walks.proofs.Lengths.{weight-small}
 use Rattle.walks.proofs.Coverage.{rows-ascending}
 use Rattle.walks.proofs.Traces.{cancel}
 use Rattle.walks.proofs.Ends.{settled-is}
@@ -118,8 +117,10 @@ module _ {V : Type 0} (m : Algebra V) (net : Network V) (s : ℕ) (t : Table V) 
     where
       here : Bool
       here = net .is-open (suc n) && eqb (net .end (suc n)) j
+
       inner : List (List ℕ)
       inner = through m net s t (find (net .start (suc n))) (t (net .start (suc n))) (net .arc-length (suc n)) x
+
       go : In w (over m net s t find j x n) ⊎ In w (only here (each (suc n) inner)) → (In w (over m net s t find j x n) → Ends n w) → Ends (suc n) w
       go (inl i) ih = let r = ih i in record { arc = r .arc; rest = r .rest; is = r .is; high = omega (arith, r .high) }
       go (inr i) ih = let r = in-each (suc n) w inner (in-only here w (each (suc n) inner) i .1) in record { arc = suc n; rest = r .rest; is = r .is; high = omega arith }
@@ -133,8 +134,10 @@ module _ {V : Type 0} (m : Algebra V) (net : Network V) (s : ℕ) (t : Table V) 
     where
       here : Bool
       here = net .is-open (suc n) && eqb (net .end (suc n)) j
+
       inner : List (List ℕ)
       inner = through m net s t (find (net .start (suc n))) (t (net .start (suc n))) (net .arc-length (suc n)) x
+
       apart : (v w : List ℕ) → In v (over m net s t find j x n) → In w (only here (each (suc n) inner)) → Sooner v w
       apart v w i k =
           let p = over-ends find j x n v i in
@@ -153,6 +156,7 @@ module _ {V : Type 0} (m : Algebra V) (net : Network V) (s : ℕ) (t : Table V) 
           let p = over-ends (walks-of m net s t n) j x (net .arcs) w k in
           subst (λ z. Sooner z w) (sym e) (subst (Sooner []) (sym (p .is)) tt)
       first v w (inr i) k = absurd i
+
       apart : (v w : List ℕ) → In v (empty-walk m net s t j x) → In w (over m net s t (walks-of m net s t n) j x (net .arcs)) → Sooner v w
       apart v w i k = first v w (in-only _ v ([] ∷ []) i .1) k
 
@@ -178,6 +182,7 @@ module _ {V : Type 0} {m : Algebra V} (laws : Laws m) (net : Network V) (s : ℕ
     where
       later : Passed find us l x w → Passed find (u ∷ us) l x w
       later p = record { value = p .value; there = inr (p .there); sum = p .sum; found = p .found }
+
       go : (o : Ordering) → m .compare (m .plus u l) x ≡ o → In w (choose o (through m net s t find us l x) (find u) (through m net s t find us l x)) → (In w (through m net s t find us l x) → Passed find us l x w) → Passed find (u ∷ us) l x w
       go Less e k ih = later (ih k)
       go Equal e k ih = record { value = u; there = inl refl; sum = laws .same (m .plus u l) x e; found = k }
@@ -210,8 +215,10 @@ module _ {V : Type 0} {m : Algebra V} (laws : Laws m) (net : Network V) (s : ℕ
     where
       here : Bool
       here = net .is-open (suc n) && eqb (net .end (suc n)) j
+
       inner : List (List ℕ)
       inner = through m net s t (find (net .start (suc n))) (t (net .start (suc n))) (net .arc-length (suc n)) x
+
       go : In w (over m net s t find j x n) ⊎ In w (only here (each (suc n) inner)) → (In w (over m net s t find j x n) → Over find j x w) → Over find j x w
       go (inl k) ih = ih k
       go (inr k) ih =
@@ -226,10 +233,13 @@ module _ {V : Type 0} {m : Algebra V} (laws : Laws m) (net : Network V) (s : ℕ
     where
       here : Bool
       here = net .is-open (suc n) && eqb (net .end (suc n)) j
+
       inner : List (List ℕ)
       inner = through m net s t (find (net .start (suc n))) (t (net .start (suc n))) (net .arc-length (suc n)) x
+
       last : Open net (suc n) → net .end (suc n) ≡ j → In w inner → In (suc n ∷ w) (over m net s t find j x n ++ only here (each (suc n) inner))
       last p f k = in-right (suc n ∷ w) (over m net s t find j x n) (only here (each (suc n) inner)) (only-in here (suc n ∷ w) (each (suc n) inner) (and-from (net .is-open (suc n)) (eqb (net .end (suc n)) j) (p .marked) (eq-eqb (net .end (suc n)) j f)) (each-in (suc n) w inner k))
+
       go : Dec (a ≡ suc n) → (a ≤ n → In (a ∷ w) (over m net s t find j x n)) → In (a ∷ w) (over m net s t find j x n ++ only here (each (suc n) inner))
       go (yes f) ih =
           subst (λ b. In (b ∷ w) (over m net s t find j x n ++ only here (each (suc n) inner))) (sym f)
@@ -248,11 +258,13 @@ module _ {V : Type 0} {m : Algebra V} (laws : Laws m) (net : Network V) (s : ℕ
     where
       home : Bool
       home = eqb s j && choose (m .compare (m .null) x) false true false
+
       empty : home ≡ true → In w ([] ∷ []) → Found (suc n) j x w
       empty e (inl f) =
           let b = and-parts (eqb s j) (choose (m .compare (m .null) x) false true false) e in
           subst (Found (suc n) j x) (sym f) (record { leads = eqb-true s j (b .0); is = equal-yes (m .null) x (b .1); few = omega arith })
       empty e (inr k) = absurd k
+
       go : In w (empty-walk m net s t j x) ⊎ In w (over m net s t (walks-of m net s t n) j x (net .arcs)) → ((j′ : ℕ) (x′ : V) (w′ : List ℕ) → In w′ (walks-of m net s t n j′ x′) → Found n j′ x′ w′) → Found (suc n) j x w
       go (inl k) ih = let o = in-only home w ([] ∷ []) k in empty (o .0) (o .1)
       go (inr k) ih =
@@ -267,14 +279,14 @@ module _ {V : Type 0} {m : Algebra V} (laws : Laws m) (net : Network V) (s : ℕ
     found-walks (suc n) j [] p l =
         in-left [] (empty-walk m net s t j (m .null)) (over m net s t (walks-of m net s t n) j (m .null) (net .arcs))
         (only-in (eqb s j && choose (m .compare (m .null) (m .null)) false true false) [] ([] ∷ [])
-            (and-from (eqb s j) (choose (m .compare (m .null) (m .null)) false true false) (eq-eqb s j (p .leads)) (ap (λ o. choose o false true false) (laws .same-self (m .null)))) (inl refl))
+        (and-from (eqb s j) (choose (m .compare (m .null) (m .null)) false true false) (eq-eqb s j (p .leads)) (ap (λ o. choose o false true false) (laws .same-self (m .null)))) (inl refl))
     found-walks (suc n) j (a ∷ w) p l =
         let r = part j a w p in
         let ih = found-walks n (net .start a) w r (omega arith) in
         let x = walk-length m net (a ∷ w) in
         in-right (a ∷ w) (empty-walk m net s t j (walk-length m net (a ∷ w))) (over m net s t (walks-of m net s t n) j (walk-length m net (a ∷ w)) (net .arcs))
         (over-in (walks-of m net s t n) j (walk-length m net (a ∷ w)) (net .arcs) a w (p .leads .0) (p .leads .0 .high) (p .leads .1)
-            (through-in (walks-of m net s t n (net .start a)) (t (net .start a)) (net .arc-length a) (walk-length m net (a ∷ w)) (walk-length m net w) w (λ u i. fits a u (p .leads .0) i) (r .inside) refl ih))
+        (through-in (walks-of m net s t n (net .start a)) (t (net .start a)) (net .arc-length a) (walk-length m net (a ∷ w)) (walk-length m net w) w (λ u i. fits a u (p .leads .0) i) (r .inside) refl ih))
 
   -- the list over all lengths of a row
   record Listed (n j : ℕ) (xs : List V) (w : List ℕ) : Type 0 where
@@ -314,24 +326,27 @@ module _ {V : Type 0} {m : Algebra V} (laws : Laws m) (net : Network V) (s : ℕ
       (order-same x (walks-of m net s t n j x) (rising-walks m net s t n j x) (λ w i. walks-found n j x w i .is))
       (order-traced n j xs (up .1))
       (λ v w i k.
-          let f = walks-found n j x v i in
-          let r = in-traced n j xs w k in
-          inl (subst (λ y. Before m y (walk-length m net w)) (sym (f .is)) (subst (Before m x) (sym (r .found .is)) (above-in laws x (r .value) xs (up .0) (r .there)))))
+      let f = walks-found n j x v i in
+      let r = in-traced n j xs w k in
+      inl (subst (λ y. Before m y (walk-length m net w)) (sym (f .is)) (subst (Before m x) (sym (r .found .is)) (above-in laws x (r .value) xs (up .0) (r .there)))))
 
   -- a list of all paths after the last one, in order, goes on from it path by path
   follows : (j : ℕ) (last : Option (List ℕ)) (ws : List (List ℕ)) → InOrder m net s t ws → ((w : List ℕ) → In w ws → PathTo m net s t j w × Since m net s t last w) → ((w : List ℕ) → PathTo m net s t j w → Since m net s t last w → In w ws)
       → Follow m net s t j last ws
   follows j last [] up from all = λ v p z. all v p z
-  follows j last (w ∷ ws) up from all =
-      (record { path = from w (inl refl) .0; since = from w (inl refl) .1; first = λ v p z a. first v a (all v p z) },
-        follows j (Some w) ws (up .1) (λ v i. (from v (inr i) .0, up .0 v i)) (λ v p a. rest v a (all v p (since-on last (from w (inl refl) .1) v a))))
+  follows j last (w ∷ ws) up from all = (
+    record { path = from w (inl refl) .0; since = from w (inl refl) .1; first = λ v p z a. first v a (all v p z) },
+    follows j (Some w) ws (up .1) (λ v i. (from v (inr i) .0, up .0 v i)) (λ v p a. rest v a (all v p (since-on last (from w (inl refl) .1) v a))),
+  )
     where
       first : (v : List ℕ) → Ahead m net v w → In v (w ∷ ws) → ⊥
       first v a (inl e) = ahead-not laws net w (subst (λ z. Ahead m net z w) e a)
       first v a (inr i) = ahead-not laws net w (ahead-trans laws net w v w (up .0 v i) a)
+
       rest : (v : List ℕ) → Ahead m net w v → In v (w ∷ ws) → In v ws
       rest v a (inl e) = absurd (ahead-not laws net w (subst (Ahead m net w) e a))
       rest v a (inr i) = i
+
       since-on : (o : Option (List ℕ)) → Since m net s t o w → (v : List ℕ) → Ahead m net w v → Since m net s t o v
       since-on None z v a = tt
       since-on (Some u) z v a = ahead-trans laws net u w v z a
@@ -344,10 +359,12 @@ module _ {V : Type 0} {m : Algebra V} {net : Network V} {k s : ℕ} (laws : Laws
     where
       t : Table V
       t = rows m net (suc k) s (suc (suc q))
+
       all : (w : List ℕ) → PathTo m net s t j w → In w (traced m net s t (suc k) j)
       all w p =
           traced-in laws net s t (net .nodes * suc k) j (t j) (walk-length m net w) w (p .inside)
           (found-walks laws net s t (λ a u o i. joinable laws g (suc (suc q)) a u (h .in-time) o i) (part-path laws g q h) (net .nodes * suc k) j w p (few laws g q h none j w p))
+
       paths : (w : List ℕ) → In w (traced m net s t (suc k) j) → PathTo m net s t j w
       paths w i =
           let r = in-traced laws net s t (net .nodes * suc k) j (t j) w i in
@@ -356,6 +373,7 @@ module _ {V : Type 0} {m : Algebra V} {net : Network V} {k s : ℕ} (laws : Laws
           let product : net .nodes * suc k ≤ 1000 * 20 = mul-le-mul (g .nodes-high) (g .k-high) in
           let light = weight-small laws net s j w (g .formed) (f .leads) in
           record { leads = f .leads; counted = omega arith; inside = subst (λ x. In x (t j)) (sym (f .is)) (r .there) }
+
       in-order : InOrder m net s t (traced m net s t (suc k) j)
       in-order = order-traced laws net s t (net .nodes * suc k) j (t j) (rows-ascending laws net (g .formed) (suc k) s (rows m net (suc k) s) (run laws g) (suc (suc q)) j)
 

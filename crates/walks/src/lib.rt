@@ -5,6 +5,7 @@ ghost use Rattle.walks.specs.Theorems.{MethodInWords, SettledExact, RefusedExa
 ghost use Rattle.walks.specs.Nulls.{NullsTold};
 ghost use Rattle.walks.specs.Paths.{PathsOrdered, PathsInRows};
 ghost use Rattle.walks.specs.Tracing.{TracedInOrder};
+ghost use Rattle.walks.specs.Cases.{SmallNetworks};
 use measure::Measure;
 
 // The sweeps as computed are those in plain words, and these determine every row and the outcome.
@@ -73,6 +74,13 @@ pub fn paths_run_through_rows<M: Measure>() -> u8
 // The computed list of paths has all of them, each the next after the one before it.
 pub fn paths_are_traced_in_order<M: Measure>() -> u8
     ensures { λ _. ⌜ TracedInOrder (M·Measure .algebra) ⌝ }
+{
+    0
+}
+
+// Small networks: rows, passes, refusal, null circuits and paths.
+pub fn small_networks() -> u8
+    ensures { λ _. ⌜ SmallNetworks ⌝ }
 {
     0
 }
