@@ -22,3 +22,5 @@ pub mod Solving
 pub mod Marking
 pub mod Paths
 pub mod Tracing
+pub mod Ways
+pub mod Labels

@@ -9,4 +9,6 @@ pub mod Theorems
 pub mod Nulls
 pub mod Paths
 pub mod Tracing
+pub mod Ways
+pub mod Labels
 pub mod Cases

@@ -4,6 +4,7 @@
 ghost use Rattle.walks.specs.Theorems.{MethodInWords, SettledExact, RefusedExactly, FewPasses, JoinsPresent, Beginning};
 ghost use Rattle.walks.specs.Nulls.{NullsTold};
 ghost use Rattle.walks.specs.Paths.{PathsOrdered, PathsInRows};
+ghost use Rattle.walks.specs.Labels.{NextPaths};
 ghost use Rattle.walks.specs.Tracing.{TracedInOrder};
 ghost use Rattle.walks.specs.Cases.{SmallNetworks};
 use measure::Measure;
@@ -67,6 +68,13 @@ pub fn paths_are_ordered<M: Measure>() -> u8
 // A path runs through the rows, and has fewer than N × K arcs where no null circuit is reached.
 pub fn paths_run_through_rows<M: Measure>() -> u8
     ensures { λ _. ⌜ PathsInRows (M·Measure .algebra) ⌝ }
+{
+    0
+}
+
+// Which path comes first, and which comes next after one, by a search backward over labels.
+pub fn next_path_is_found_by_labels<M: Measure>() -> u8
+    ensures { λ _. ⌜ NextPaths (M·Measure .algebra) ⌝ }
 {
     0
 }
