@@ -1,23 +1,21 @@
 -- The ways back from a label are the paths of its length.
 use mathlib.Core.Path.{_≡_, refl, sym, _∙_, ap, subst}
-use mathlib.Core.Logic.{_⊎_, inl, inr}
+use mathlib.Core.Logic.{inl, inr}
 use mathlib.Core.List.{List, [], _∷_}
-use Prim.Native.Nat.{ℕ, suc, zero, _+_, _*_, _^_, _≤_, _<_}
+use Prim.Native.Nat.{ℕ, suc, zero, _*_, _≤_, _<_}
 use native.Mathlib.Nat.{mul-le-mul}
 use native.Mathlib.Omega.{arith}
 use lib.ListN.{length}
-use Rattle.std.specs.declared.option.Option.{Option}
 use Rattle.std.specs.declared.option.Option.the-variants.{Some, None}
 use Rattle.measure.specs.Algebra.{Algebra, Laws, Before, Joinable}
-use Rattle.walks.specs.Networks.{Network, Open, WellFormed}
-use Rattle.walks.specs.Walks.{Walk, walk-length, weight, Counted}
+use Rattle.walks.specs.Networks.{Network, Open}
+use Rattle.walks.specs.Walks.{Walk, walk-length}
 use Rattle.walks.specs.Circuits.{NullCircuit}
 use Rattle.walks.specs.Rows.{Table, In}
 use Rattle.walks.specs.Method.{rows}
-use Rattle.walks.specs.Solves.{settled, outcome}
-use Rattle.walks.specs.Theorems.{Within, LengthOf, Settles}
-use Rattle.walks.specs.Paths.{Sooner, Ahead, PathTo, Since, Next}
-use Rattle.walks.specs.Ways.{Soonest, Way, Later, Last, Steady, Search}
+use Rattle.walks.specs.Paths.{Ahead, PathTo, Since, Next}
+use Rattle.walks.specs.Theorems.{Within, Settles}
+use Rattle.walks.specs.Ways.{Soonest, Later, Last, Steady}
 use Rattle.walks.specs.Labels.{Back, Home, WayOf, NextLength, FoundByLabels, NextPaths}
 use Rattle.walks.proofs.Orders.{never, before-not}
 use Rattle.walks.proofs.Lengths.{weight-small}
@@ -25,7 +23,7 @@ use Rattle.walks.proofs.Traces.{cancel}
 use Rattle.walks.proofs.Ends.{settled-is}
 use Rattle.walks.proofs.Solving.{settled-exact, joinable}
 use Rattle.walks.proofs.Paths.{part-path, few}
-use Rattle.walks.proofs.Ways.{searches}
+use Rattle.walks.proofs.Ways.{stepwise}
 
 module _ {V : Type 0} {m : Algebra V} {net : Network V} {k s : ℕ} (laws : Laws m) (g : Within m net (suc k) s) (none : ¬ NullCircuit m net s) (q : ℕ) (h : Settles m net (suc k) s (rows m net (suc k) s) (suc (suc q))) where
   abbrev T : Table V
@@ -79,14 +77,17 @@ module _ {V : Type 0} {m : Algebra V} {net : Network V} {k s : ℕ} (laws : Laws
           let node : z .0 ≡ y .0 = sym (c .from) ∙ b .from in
           let value : z .1 ≡ y .1 = cancel laws (z .1) (y .1) (net .arc-length a) (fits x z a c) (fits x y a b) (c .sum ∙ sym (b .sum)) in
           subst (λ i. WayOf m net s T (i, y .1) w) node (subst (λ v. WayOf m net s T (z .0, v) w) value v)
+
       ends : (x y : ℕ × V) (a : ℕ) → Home m net s T x → ¬ Back m net s T x a y
       ends x y a home b =
           let r = some-path (y .0) (y .1) (b .there) in
           let e : L (a ∷ r .0) ≡ x .1 = ap (λ z. m .plus z (net .arc-length a)) (r .1 .1) ∙ b .sum in
           let p = more-path (x .0) a (r .0) (b .is-open) (b .into) (subst (λ i. PathTo m net s T i (r .0)) (sym (b .from)) (r .1 .0)) (subst (λ z. In z (T (x .0))) (sym e) (b .here)) in
           none (record { at = s; way = []; leads = refl; way-counted = omega arith; last = a; rest = r .0; round = subst (λ i. Walk net s i (a ∷ r .0)) (home .0) (p .leads); counted = p .counted; admitted = e ∙ home .1 })
+
       live : (x y : ℕ × V) (a : ℕ) → Back m net s T x a y → (w : List ℕ) × WayOf m net s T y w
       live x y a b = let r = some-path (y .0) (y .1) (b .there) in (r .0, way-of (y .0) (y .1) (r .0) (r .1 .0) (r .1 .1))
+
       short : (x y : ℕ × V) (a : ℕ) (w : List ℕ) → Back m net s T x a y → WayOf m net s T y w → length (a ∷ w) < net .nodes * suc k
       short x y a w b v = let r = way-path (x .0) (x .1) (a ∷ w) (b .here) (y, (b, v)) in few laws g q h none (x .0) (a ∷ w) (r .0)
 
@@ -95,6 +96,7 @@ module _ {V : Type 0} {m : Algebra V} {net : Network V} {k s : ℕ} (laws : Laws
     where
       p : PathTo m net s T j w × (L w ≡ x)
       p = way-path j x w i (r .holds)
+
       not-ahead : (v : List ℕ) → PathTo m net s T j v → ¬ Ahead m net v w
       not-ahead v pv (inl b) = low (L v) (pv .inside) (subst (Before m (L v)) (p .1) b)
       not-ahead v pv (inr b) = r .first v (way-of j x v pv (b .0 ∙ p .1)) (b .1)
@@ -104,6 +106,7 @@ module _ {V : Type 0} {m : Algebra V} {net : Network V} {k s : ℕ} (laws : Laws
     where
       p : PathTo m net s T j v × (L v ≡ L w)
       p = way-path j (L w) v (pw .inside) (r .holds .0)
+
       not-ahead : (u : List ℕ) → PathTo m net s T j u → Ahead m net w u → ¬ Ahead m net u v
       not-ahead u pu (inl a) (inl b) = before-not laws (L w) (L u) a (subst (Before m (L u)) (p .1) b)
       not-ahead u pu (inl a) (inr b) = never laws (L u) (subst (λ z. Before m z (L u)) (sym (p .1) ∙ sym (b .0)) a)
@@ -115,6 +118,7 @@ module _ {V : Type 0} {m : Algebra V} {net : Network V} {k s : ℕ} (laws : Laws
     where
       p : PathTo m net s T j v × (L v ≡ y)
       p = way-path j y v (n .there) (r .holds)
+
       not-ahead : (u : List ℕ) → PathTo m net s T j u → Ahead m net w u → ¬ Ahead m net u v
       not-ahead u pu (inl a) (inl b) = n .first (L u) (pu .inside) a (subst (Before m (L u)) (p .1) b)
       not-ahead u pu (inl a) (inr b) = r .first u (way-of j y u pu (b .0 ∙ p .1)) (b .1)
@@ -125,7 +129,7 @@ module _ {V : Type 0} {m : Algebra V} {net : Network V} {k s : ℕ} (laws : Laws
   none-left j w pw last high v pv (inr a) = last v (way-of j (L w) v pv (sym (a .0))) (a .1)
 
   found : FoundByLabels m net s T (suc k)
-  found = record { way-path = way-path; path-way = path-way; steady = steady; search = searches steady; first = first; next-way = next-way; next-length = next-length; none-left = none-left }
+  found = record { way-path = way-path; path-way = path-way; steady = steady; stepwise = stepwise steady; first = first; next-way = next-way; next-length = next-length; none-left = none-left }
 
 module _ {V : Type 0} {m : Algebra V} {net : Network V} {k s : ℕ} (laws : Laws m) (g : Within m net (suc k) s) (none : ¬ NullCircuit m net s) where
   found-at : (p : ℕ) → Settles m net (suc k) s (rows m net (suc k) s) p → FoundByLabels m net s (rows m net (suc k) s p) (suc k)

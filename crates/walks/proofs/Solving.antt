@@ -15,7 +15,7 @@ use Rattle.walks.specs.Rows.{Table, In, Covers, FirstOf}
 use Rattle.walks.specs.Method.{rows}
 use Rattle.walks.specs.Runs.{Run}
 use Rattle.walks.specs.Solves.{last-pass}
-use Rattle.walks.specs.Theorems.{Within, LengthOf, ExactRow, Unchanged, Settles, NeverSettles, SettledExact, RefusedExactly, FewPasses, JoinsPresent, Beginning}
+use Rattle.walks.specs.Theorems.{Within, LengthOf, ExactRow, Unchanged, Settles, NeverSettles, SettledExact, RefusedExactly, FewPasses, JoinsPresent, RowsBegin, SolvesBegin}
 use Rattle.walks.proofs.Rows.{unique}
 use Rattle.walks.proofs.Placing.{ascending-take, in-take}
 use Rattle.walks.proofs.Lengths.{weight-small, magnitude-walk}
@@ -176,5 +176,8 @@ module _ {V : Type 0} {m : Algebra V} (laws : Laws m) where
       (λ v i. covers-less k l more v le (r .covers v (h .from v i)))
       (λ v i. h .covers v (r .from v (in-take k more v i)))
 
-  pub beginnings : Beginning m
-  beginnings net k l s j row more = beginning-of (LengthOf m net s j) k l row more
+  pub beginnings : RowsBegin m × SolvesBegin m
+  beginnings = (
+    λ net k l s j row more. beginning-of (LengthOf m net s j) k l row more,
+    λ net k l s p q j g g′ le e e′. beginning-of (LengthOf m net s j) k l (rows m net k s p j) (rows m net l s q j) le (exactness net k s g p e j) (exactness net l s g′ q e′ j),
+  )

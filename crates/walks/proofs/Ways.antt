@@ -1,11 +1,11 @@
 -- The first way back from a label, and the next after a way.
 use mathlib.Core.Path.{_≡_, refl, sym, subst}
-use mathlib.Core.Logic.{_⊎_, inl, inr}
+use mathlib.Core.Logic.{inl, inr}
 use mathlib.Core.List.{List, [], _∷_}
-use Prim.Native.Nat.{ℕ, suc, zero, _≤_, _<_}
+use Prim.Native.Nat.{ℕ}
 use native.Mathlib.Omega.{arith}
 use Rattle.walks.specs.Paths.{Sooner}
-use Rattle.walks.specs.Ways.{Soonest, Way, Later, Last, Lowest, NoneAbove, Steady, Search}
+use Rattle.walks.specs.Ways.{Soonest, Way, Later, Last, Lowest, NoneAbove, Steady, Stepwise}
 
 module _ {L : Type 0} {Back : L → ℕ → L → Type 0} {Home : L → Type 0} {cells : ℕ} (steady : Steady Back Home cells) where
   -- an arc that is the same leads back to labels with the same ways
@@ -48,5 +48,5 @@ module _ {L : Type 0} {Back : L → ℕ → L → Type 0} {Home : L → Type 0} 
       none (c ∷ t) p (inr l) (inl q) = omega (arith, l .0)
       none (c ∷ t) p (inr l) (inr q) = h .first t (again x y (p .0) a c t k (q .0) (p .1 .0) (p .1 .1), l .1) (q .1)
 
-  pub searches : Search Back Home
-  searches = record { home-first = λ x h. record { holds = h; first = λ v p l. l }; home-last = home-last; first = first; next-keeps = next-keeps; next-turns = next-turns; next-none = next-none }
+  pub stepwise : Stepwise Back Home
+  stepwise = record { home-first = λ x h. record { holds = h; first = λ v p l. l }; home-last = home-last; first = first; next-keeps = next-keeps; next-turns = next-turns; next-none = next-none }

@@ -1,6 +1,6 @@
 -- The first path to a node, and the next after one: by labels (a node and a length of its row), backward over the arcs.
 use mathlib.Core.Path.{_≡_}
-use mathlib.Core.List.{List, [], _∷_}
+use mathlib.Core.List.{List}
 use Prim.Native.Nat.{ℕ, _*_}
 use Rattle.std.specs.declared.option.Option.the-variants.{Some, None}
 use Rattle.measure.specs.Algebra.{Algebra, Before}
@@ -12,7 +12,7 @@ use Rattle.walks.specs.Method.{rows}
 use Rattle.walks.specs.Solves.{settled, outcome}
 use Rattle.walks.specs.Theorems.{Within}
 use Rattle.walks.specs.Paths.{PathTo, Since, Next}
-use Rattle.walks.specs.Ways.{Soonest, Way, Later, Last, Steady, Search}
+use Rattle.walks.specs.Ways.{Soonest, Way, Later, Last, Steady, Stepwise}
 
 module _ {V : Type 0} (m : Algebra V) (net : Network V) (s : ℕ) (t : Table V) where
   -- x and y are lengths in the rows of their nodes, and y joined with the length of the open arc a is x
@@ -28,6 +28,7 @@ module _ {V : Type 0} (m : Algebra V) (net : Network V) (s : ℕ) (t : Table V) 
   abbrev pub Home : ℕ × V → Type 0
   Home x = (x .0 ≡ s) × (x .1 ≡ m .null)
 
+  -- the arcs of w lead back from a label to null at the source
   abbrev pub WayOf : ℕ × V → List ℕ → Type 0
   WayOf = Way Back Home
 
@@ -37,12 +38,13 @@ module _ {V : Type 0} (m : Algebra V) (net : Network V) (s : ℕ) (t : Table V) 
     pub after : Before m x y
     pub first : (z : V) → In z row → Before m x z → ¬ Before m z y
 
+  -- how the first path and the next one are found
   pub record FoundByLabels (k : ℕ) : Type 0 where
     -- the ways back from a label are the paths of its length
     pub way-path : (j : ℕ) (x : V) (w : List ℕ) → In x (t j) → WayOf (j, x) w → PathTo m net s t j w × (walk-length m net w ≡ x)
     pub path-way : (j : ℕ) (w : List ℕ) → PathTo m net s t j w → WayOf (j, walk-length m net w) w
     pub steady : Steady Back Home (net .nodes * k)
-    pub search : Search Back Home
+    pub stepwise : Stepwise Back Home
     -- the first path is the first way of the first length
     pub first : (j : ℕ) (x : V) (w : List ℕ) → In x (t j) → ((z : V) → In z (t j) → ¬ Before m z x) → Soonest (WayOf (j, x)) w → Next m net s t j None w
     -- the next path has the same length while there is a later way

@@ -65,6 +65,7 @@ module _ {V : Type 0} (m : Algebra V) (net : Network V) (s : ℕ) (t : Table V) 
     pub apart : ¬ NullCircuit m net s → (j a : ℕ) (u w : List ℕ) → PathTo j u → PathTo j (u ++ (a ∷ w)) → ¬ (walk-length m net u ≡ walk-length m net (u ++ (a ∷ w)))
 
 module _ {V : Type 0} (m : Algebra V) where
+  -- in every network
   abbrev pub PathsOrdered : Type 0
   PathsOrdered = (net : Network V) → TotalOrder m net
 

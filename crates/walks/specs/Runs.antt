@@ -1,4 +1,4 @@
--- The sweeps over a network, in plain words: each pass leaves every node the first K distinct values among its old row and the joins that it is offered.
+-- The sweeps over a network, in plain words.
 use mathlib.Core.Path.{_≡_}
 use mathlib.Core.Logic.{_⊎_}
 use mathlib.Core.Bool.{Bool, true, false}
@@ -25,9 +25,11 @@ module _ {V : Type 0} (m : Algebra V) (net : Network V) (k : ℕ) (s : ℕ) wher
     pub there : In old (new (net .start arc))
     pub sum : x ≡ m .plus old (net .arc-length arc)
 
+  -- what node j may keep: its old values, and the joins
   abbrev pub Offered : Bool → Table V → Table V → ℕ → V → Type 0
   Offered down old new j x = In x (old j) ⊎ Joined down new j x
 
+  -- a pass leaves every node the first K of these
   abbrev pub Pass : Bool → Table V → Table V → Type 0
   Pass down old new = (j : ℕ) → FirstOf m k (Offered down old new j) (new j)
 

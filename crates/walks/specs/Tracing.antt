@@ -1,6 +1,5 @@
 -- The list of all paths to a node, as it is computed: for each length of the row, a search backward over the arcs.
 use mathlib.Core.Path.{_≡_}
-use mathlib.Core.Logic.{_⊎_}
 use mathlib.Core.Bool.{Bool, true, false, _&&_}
 use mathlib.Core.List.{List, [], _∷_, _++_}
 use Prim.Native.Nat.{ℕ, suc, zero, _*_}
@@ -45,6 +44,7 @@ module _ {V : Type 0} (m : Algebra V) (net : Network V) (s : ℕ) (t : Table V) 
   walks-of zero j x = []
   walks-of (suc n) j x = empty-walk j x ++ over (walks-of n) j x (net .arcs)
 
+  -- the same for each of these lengths in turn
   abbrev pub traced-of : ℕ → ℕ → List V → List (List ℕ)
   traced-of n j [] = []
   traced-of n j (x ∷ xs) = walks-of n j x ++ traced-of n j xs

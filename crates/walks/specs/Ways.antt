@@ -43,7 +43,7 @@ module _ {L : Type 0} (Back : L → ℕ → L → Type 0) (Home : L → Type 0) 
     pub few : (x y : L) (a : ℕ) (w : List ℕ) → Back x a y → Way y w → length (a ∷ w) < cells
 
   -- the first way of a label and the next after one, arc by arc
-  pub record Search : Type 0 where
+  pub record Stepwise : Type 0 where
     -- home has the empty way and no other
     pub home-first : (x : L) → Home x → Soonest (Way x) []
     pub home-last : (x : L) → Home x → Last x []
