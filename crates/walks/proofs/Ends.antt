@@ -12,9 +12,9 @@ use Rattle.measure.specs.Algebra.{Algebra, Laws}
 use Rattle.walks.specs.Networks.{Network}
 use Rattle.walks.specs.Rows.{Table}
 use Rattle.walks.specs.Method.{choose, rows}
-use Rattle.walks.specs.Runs.{Run}
 use Rattle.walks.specs.Solves.{Outcome, settled, refused, ends, same-row, same-rows, quiet, solve-from, last-pass, outcome}
-use Rattle.walks.specs.Theorems.{Unchanged, Settles, NeverSettles, MethodInWords}
+use Rattle.walks.specs.Runs.{Run, Unchanged, Settles, NeverSettles}
+use Rattle.walks.specs.Theorems.{MethodInWords}
 use Rattle.walks.proofs.Method.{rows-run}
 use Rattle.walks.proofs.Once.{rows-once}
 

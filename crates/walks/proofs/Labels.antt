@@ -13,8 +13,9 @@ use Rattle.walks.specs.Walks.{Walk, walk-length}
 use Rattle.walks.specs.Circuits.{NullCircuit}
 use Rattle.walks.specs.Rows.{Table, In}
 use Rattle.walks.specs.Method.{rows}
+use Rattle.walks.specs.Runs.{Settles}
 use Rattle.walks.specs.Paths.{Ahead, PathTo, Since, Next}
-use Rattle.walks.specs.Theorems.{Within, Settles}
+use Rattle.walks.specs.Theorems.{Within}
 use Rattle.walks.specs.Ways.{Soonest, Later, Last, Steady}
 use Rattle.walks.specs.Labels.{Back, Home, WayOf, NextLength, FoundByLabels, NextPaths}
 use Rattle.walks.proofs.Orders.{never, before-not}

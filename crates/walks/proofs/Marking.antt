@@ -16,8 +16,9 @@ use Rattle.walks.specs.Walks.{Walk, walk-length, Counted}
 use Rattle.walks.specs.Circuits.{NegativeCircuit, NullCircuit}
 use Rattle.walks.specs.Rows.{Table, Covers}
 use Rattle.walks.specs.Method.{choose, rows}
+use Rattle.walks.specs.Runs.{Settles}
 use Rattle.walks.specs.Nulls.{Tight, AllTight, Ring, carries, is-tight, implies, cleared, marked, all-marked, null-found, TellsNulls, NullsTold}
-use Rattle.walks.specs.Theorems.{Within, Settles}
+use Rattle.walks.specs.Theorems.{Within}
 use Rattle.walks.proofs.Lengths.{walk-append}
 use Rattle.walks.proofs.Nulls.{Behind, behind-more, behind-ring, ranked, held-ring, null-ring, ring-null}
 use Rattle.walks.proofs.Ends.{settled-is}

@@ -12,8 +12,9 @@ use Rattle.walks.specs.Walks.{Walk, walk-length, weight}
 use Rattle.walks.specs.Circuits.{NullCircuit}
 use Rattle.walks.specs.Rows.{Table, In}
 use Rattle.walks.specs.Method.{rows}
+use Rattle.walks.specs.Runs.{Settles}
 use Rattle.walks.specs.Paths.{Sooner, Ahead, PathTo, PathsRunThroughRows, PathsOrdered, PathsInRows}
-use Rattle.walks.specs.Theorems.{Within, Settles}
+use Rattle.walks.specs.Theorems.{Within}
 use Rattle.walks.proofs.Orders.{Three, before, same, after, three, never}
 use Rattle.walks.proofs.Lengths.{weight-append, magnitude-walk, walk-length-append}
 use Rattle.walks.proofs.Coverage.{rows-ascending, rows-short}

@@ -13,9 +13,9 @@ use Rattle.walks.specs.Walks.{Walk, walk-length, Counted}
 use Rattle.walks.specs.Circuits.{NegativeCircuit}
 use Rattle.walks.specs.Rows.{Table, In, Covers, FirstOf}
 use Rattle.walks.specs.Method.{rows}
-use Rattle.walks.specs.Runs.{Run}
 use Rattle.walks.specs.Solves.{last-pass}
-use Rattle.walks.specs.Theorems.{Within, LengthOf, ExactRow, Unchanged, Settles, NeverSettles, SettledExact, RefusedExactly, FewPasses, JoinsPresent, RowsBegin, SolvesBegin}
+use Rattle.walks.specs.Runs.{Run, Unchanged, Settles, NeverSettles}
+use Rattle.walks.specs.Theorems.{Within, LengthOf, ExactRow, SettledExact, RefusedExactly, FewPasses, JoinsPresent, RowsBegin, SolvesBegin}
 use Rattle.walks.proofs.Rows.{unique}
 use Rattle.walks.proofs.Placing.{ascending-take, in-take}
 use Rattle.walks.proofs.Lengths.{weight-small, magnitude-walk}

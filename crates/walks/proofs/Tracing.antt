@@ -20,8 +20,9 @@ use Rattle.walks.specs.Walks.{Walk, walk-length}
 use Rattle.walks.specs.Circuits.{NullCircuit}
 use Rattle.walks.specs.Rows.{Table, In, Ascending}
 use Rattle.walks.specs.Method.{choose, rows}
+use Rattle.walks.specs.Runs.{Settles}
 use Rattle.walks.specs.Paths.{Sooner, Ahead, PathTo, Since, Follow}
-use Rattle.walks.specs.Theorems.{Within, Settles}
+use Rattle.walks.specs.Theorems.{Within}
 use Rattle.walks.specs.Tracing.{only, each, through, over, empty-walk, walks-of, traced-of, traced, InOrder, ListsPaths, TracedInOrder}
 use Rattle.walks.proofs.Rows.{above-in}
 use Rattle.walks.proofs.Lengths.{weight-small}

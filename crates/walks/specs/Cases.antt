@@ -118,25 +118,34 @@ alone = drawn sum-algebra 1 []
 
 -- what their solves from node 1 come to
 pub record SmallNetworks : Type 0 where
+  -- the walks to node 4 go by 2 and 3 in many ways
   pub diamond-rows : SettlesWith sum-algebra diamond 3 7 ((plus 0 ∷ []) ∷ (plus 3 ∷ plus 4 ∷ plus 5 ∷ []) ∷ (plus 2 ∷ plus 4 ∷ plus 5 ∷ []) ∷ (plus 8 ∷ plus 9 ∷ plus 10 ∷ []) ∷ [])
   pub diamond-null : ¬ NullCircuit sum-algebra diamond 1
   -- its paths to node 4, each with the last arc first
   pub diamond-paths : traced sum-algebra diamond 1 (rows sum-algebra diamond 3 1 7) 3 4 ≡ (5 ∷ 1 ∷ 3 ∷ []) ∷ (5 ∷ 2 ∷ []) ∷ (6 ∷ 3 ∷ []) ∷ (5 ∷ 1 ∷ 4 ∷ 1 ∷ 3 ∷ []) ∷ []
   pub diamond-lengths : lengths sum-algebra diamond (traced sum-algebra diamond 1 (rows sum-algebra diamond 3 1 7) 3 4) ≡ plus 8 ∷ plus 9 ∷ plus 9 ∷ plus 10 ∷ []
+  -- there by 3 and back by -2: the circuit is after null
   pub after-null-rows : SettlesWith sum-algebra (there-and-back (minus 2)) 2 5 ((plus 0 ∷ plus 1 ∷ []) ∷ (plus 3 ∷ plus 4 ∷ []) ∷ [])
   pub after-null-none : ¬ NullCircuit sum-algebra (there-and-back (minus 2)) 1
+  -- back by -3: the circuit is null
   pub null-rows : SettlesWith sum-algebra (there-and-back (minus 3)) 2 3 ((plus 0 ∷ []) ∷ (plus 3 ∷ []) ∷ [])
   pub null-reached : NullCircuit sum-algebra (there-and-back (minus 3)) 1
+  -- back by -4: the circuit is before null
   pub before-null-refused : outcome sum-algebra (there-and-back (minus 4)) 2 1 ≡ refused
   pub before-null-reached : NegativeCircuit sum-algebra (there-and-back (minus 4)) 1
+  -- the same with the way back closed
   pub closed-rows : SettlesWith sum-algebra no-way-back 2 3 ((plus 0 ∷ []) ∷ (plus 3 ∷ []) ∷ [])
   pub closed-none : ¬ NullCircuit sum-algebra no-way-back 1
+  -- a circuit before null that is not reached
   pub unreached-rows : SettlesWith sum-algebra out-of-reach 2 2 ((plus 0 ∷ []) ∷ [] ∷ [] ∷ [])
   pub unreached-none : ¬ NullCircuit sum-algebra out-of-reach 1
+  -- the longest lengths first
   pub longest-rows : SettlesWith reversed-sum longest-first 2 3 ((back 0 ∷ []) ∷ (back 4 ∷ []) ∷ (back 6 ∷ back 5 ∷ []) ∷ [])
   pub longest-none : ¬ NullCircuit reversed-sum longest-first 1
+  -- the first parts agree, and the second decide
   pub second-rows : SettlesWith sum-then-sum second-decides 2 3 ((both 0 0 ∷ []) ∷ (both 2 7 ∷ both 2 10 ∷ []) ∷ [])
   pub second-none : ¬ NullCircuit sum-then-sum second-decides 1
+  -- one node: one path, without arcs
   pub alone-rows : SettlesWith sum-algebra alone 1 2 ((plus 0 ∷ []) ∷ [])
   pub alone-none : ¬ NullCircuit sum-algebra alone 1
   pub alone-path : traced sum-algebra alone 1 (rows sum-algebra alone 1 1 2) 1 1 ≡ [] ∷ []

@@ -1,7 +1,7 @@
 -- What is true of every solve within the limits.
 use mathlib.Core.Path.{_≡_}
 use mathlib.Core.List.{List}
-use Prim.Native.Nat.{ℕ, suc, zero, _+_, _*_, _≤_, _<_}
+use Prim.Native.Nat.{ℕ, _+_, _*_, _≤_}
 use lib.ListN.{take}
 use Rattle.measure.specs.Algebra.{Algebra, Joinable}
 use Rattle.walks.specs.Networks.{Network, Open, WellFormed}
@@ -9,7 +9,7 @@ use Rattle.walks.specs.Walks.{Walk, walk-length, Counted}
 use Rattle.walks.specs.Circuits.{NegativeCircuit}
 use Rattle.walks.specs.Rows.{Table, In, FirstOf}
 use Rattle.walks.specs.Method.{rows}
-use Rattle.walks.specs.Runs.{Run}
+use Rattle.walks.specs.Runs.{Run, Settles, NeverSettles}
 use Rattle.walks.specs.Solves.{settled, refused, last-pass, outcome}
 
 module _ {V : Type 0} (m : Algebra V) (net : Network V) where
@@ -32,23 +32,6 @@ module _ {V : Type 0} (m : Algebra V) (net : Network V) where
   -- the row has the first K distinct lengths of walks from s to j
   abbrev pub ExactRow : ℕ → ℕ → ℕ → List V → Type 0
   ExactRow k s j row = FirstOf m k (LengthOf s j) row
-
--- pass p changes no row
-abbrev pub Unchanged : {V : Type 0} → Network V → (ℕ → Table V) → ℕ → Type 0
-Unchanged net rows zero = ⊥
-Unchanged net rows (suc p) = (j : ℕ) → 1 ≤ j → j ≤ net .nodes → rows (suc p) j ≡ rows p j
-
-module _ {V : Type 0} (m : Algebra V) (net : Network V) (k s : ℕ) (rows : ℕ → Table V) where
-  -- pass p ends the solve
-  pub record Settles (p : ℕ) : Type 0 where
-    pub second : 2 ≤ p
-    pub in-time : p ≤ last-pass m net k s
-    pub unchanged : Unchanged net rows p
-    pub first : (q : ℕ) → 2 ≤ q → q < p → ¬ Unchanged net rows q
-
-  -- no pass ends it
-  abbrev pub NeverSettles : Type 0
-  NeverSettles = (p : ℕ) → 2 ≤ p → p ≤ last-pass m net k s → ¬ Unchanged net rows p
 
 -- the rows as computed are a run in plain words, there is only one run, and the outcome is what the passes of the run say
 pub record InWords {V : Type 0} (m : Algebra V) (net : Network V) (k s : ℕ) : Type 0 where
