@@ -1,21 +1,20 @@
 -- How a solve ends, in words.
 use mathlib.Core.Path.{_≡_, refl, sym, _∙_, ap, subst}
-use mathlib.Core.Logic.{_⊎_, inl, inr}
-use mathlib.Core.Bool.{Bool, true, false, _&&_}
+use mathlib.Core.Bool.{Bool, true, false}
 use mathlib.Core.List.{List, [], _∷_}
-use Prim.Native.Nat.{ℕ, suc, zero, _+_, _-_, _*_, _≤_, _<_}
+use Prim.Native.Nat.{ℕ, suc, zero, _+_, _-_, _≤_, _<_}
 use native.Mathlib.Omega.{arith}
-use native.Mathlib.Decide.{decLe, decLt, ℕ-discrete}
+use native.Mathlib.Decide.{decLt, ℕ-discrete}
 use Rattle.std.proofs.shelf.Tests.{and-parts, and-from, false≢true}
 use Rattle.std.specs.declared.cmp.Ordering.{Ordering}
 use Rattle.std.specs.declared.cmp.Ordering.the-variants.{Less, Equal, Greater}
-use Rattle.measure.specs.Algebra.{Algebra, Laws, Before}
-use Rattle.walks.specs.Networks.{Network, WellFormed}
+use Rattle.measure.specs.Algebra.{Algebra, Laws}
+use Rattle.walks.specs.Networks.{Network}
 use Rattle.walks.specs.Rows.{Table}
 use Rattle.walks.specs.Method.{choose, rows}
-use Rattle.walks.specs.Runs.{Run}
 use Rattle.walks.specs.Solves.{Outcome, settled, refused, ends, same-row, same-rows, quiet, solve-from, last-pass, outcome}
-use Rattle.walks.specs.Theorems.{Unchanged, Settles, NeverSettles, MethodInWords}
+use Rattle.walks.specs.Runs.{Run, Unchanged, Settles, NeverSettles}
+use Rattle.walks.specs.Theorems.{MethodInWords}
 use Rattle.walks.proofs.Method.{rows-run}
 use Rattle.walks.proofs.Once.{rows-once}
 

@@ -3,7 +3,6 @@ use mathlib.Core.Path.{_≡_, refl, sym, _∙_, ap, subst}
 use mathlib.Core.Bool.{Bool, true, false, not, _&&_}
 use mathlib.Core.List.{List, [], _∷_, _++_}
 use Prim.Native.Nat.{ℕ, suc, zero, _+_, _*_, _^_, _≤_, _<_}
-use native.Mathlib.Nat.{mul-le-mul}
 use native.Mathlib.Omega.{arith}
 use native.Mathlib.Decide.{ℕ-discrete}
 use lib.Dec.{eqb}
@@ -12,16 +11,15 @@ use Rattle.std.proofs.shelf.Tests.{and-parts, and-from, false≢true, eqb-true,
 use Rattle.std.specs.declared.cmp.Ordering.{Ordering}
 use Rattle.std.specs.declared.cmp.Ordering.the-variants.{Less, Equal, Greater}
 use Rattle.measure.specs.Algebra.{Algebra, Laws}
-use Rattle.walks.specs.Networks.{Network, Open, WellFormed}
+use Rattle.walks.specs.Networks.{Network, WellFormed}
 use Rattle.walks.specs.Walks.{Walk, walk-length, Counted}
 use Rattle.walks.specs.Circuits.{NegativeCircuit, NullCircuit}
 use Rattle.walks.specs.Rows.{Table, Covers}
 use Rattle.walks.specs.Method.{choose, rows}
-use Rattle.walks.specs.Solves.{settled, last-pass, outcome}
-use Rattle.walks.specs.Theorems.{Within, Settles}
-use Rattle.walks.specs.Nulls.{FirstLength, Tight, AllTight, Ring, Held, carries, is-tight, implies, cleared, marked, all-marked, null-found, TellsNulls, NullsTold}
+use Rattle.walks.specs.Runs.{Settles}
+use Rattle.walks.specs.Nulls.{Tight, AllTight, Ring, carries, is-tight, implies, cleared, marked, all-marked, null-found, TellsNulls, NullsTold}
+use Rattle.walks.specs.Theorems.{Within}
 use Rattle.walks.proofs.Lengths.{walk-append}
-use Rattle.walks.proofs.Runs.{Sound}
 use Rattle.walks.proofs.Nulls.{Behind, behind-more, behind-ring, ranked, held-ring, null-ring, ring-null}
 use Rattle.walks.proofs.Ends.{settled-is}
 use Rattle.walks.proofs.Solving.{sound, none-reached, complete, small}

@@ -1,6 +1,6 @@
 -- Whether a null circuit is reached, by tight arcs.
 use mathlib.Core.Path.{_≡_, refl, sym, _∙_, ap, subst}
-use mathlib.Core.Bool.{Bool, true, false}
+use mathlib.Core.Bool.{Bool, false}
 use mathlib.Core.List.{List, [], _∷_, _++_}
 use Prim.Native.Nat.{ℕ, suc, zero, _+_, _*_, _^_, _≤_, _<_}
 use native.Mathlib.Omega.{arith}
@@ -117,6 +117,13 @@ module _ {V : Type 0} (m : Algebra V) (net : Network V) (table : Table V) where
   tight-part [] t h = (tt, h)
   tight-part (a ∷ u) t h = let r = tight-part u t (h .1) in ((h .0, r .0), r .1)
 
+  -- a loop on a way of tight arcs is a ring
+  loop-tight : (x j : ℕ) (w : List ℕ) (r : Looped net x j w) → AllTight m net table w → AllTight m net table (r .a ∷ r .c)
+  loop-tight x j w r t = tight-part (r .a ∷ r .c) (r .t) (tight-part (r .u) ((r .a ∷ r .c) ++ r .t) (subst (AllTight m net table) (r .is) t) .1) .0
+
+  loop-few : (x j : ℕ) (w : List ℕ) (r : Looped net x j w) → length (r .a ∷ r .c) ≤ length w
+  loop-few x j w r = omega (arith, ap length (r .is), length-append (r .u) ((r .a ∷ r .c) ++ r .t), length-append (r .a ∷ r .c) (r .t))
+
   -- a ring can be cut to a short one
   short-within : WellFormed m net → (n v a : ℕ) (w : List ℕ) → length (a ∷ w) ≤ n → Walk net v v (a ∷ w) → AllTight m net table (a ∷ w) → ShortRing
   short-within formed zero v a w few h t = absurd (omega arith)
@@ -128,8 +135,8 @@ module _ {V : Type 0} (m : Algebra V) (net : Network V) (table : Table V) where
           let p = formed a (h .0) in
           let e = h .1 in
           let r = looped {m = m} net formed v (omega arith) (omega arith) (net .start a) w (h .2) (omega arith) in
-          let q = tight-part (r .u) ((r .a ∷ r .c) ++ r .t) (subst (AllTight m net table) (r .is) (t .1)) in
-          ih (r .at) (r .a) (r .c) (omega (arith, ap length (r .is), length-append (r .u) ((r .a ∷ r .c) ++ r .t), length-append (r .a ∷ r .c) (r .t))) (r .round) (tight-part (r .a ∷ r .c) (r .t) (q .1) .0)
+          let f = loop-few v (net .start a) w r in
+          ih (r .at) (r .a) (r .c) (omega arith) (r .round) (loop-tight v (net .start a) w r (t .1))
 
   pub short-ring : WellFormed m net → Ring m net table → ShortRing
   short-ring formed r = short-within formed (length (r .last ∷ r .rest)) (r .at) (r .last) (r .rest) (omega arith) (r .round) (r .tight)
@@ -163,8 +170,7 @@ module _ {V : Type 0} (m : Algebra V) (net : Network V) (table : Table V) where
       go (a ∷ w) h many t =
           let i = starts-in formed (b .at) j a w h in
           let l = looped {m = m} net formed (b .at) (i .0) (i .1) j (a ∷ w) h (omega arith) in
-          let q = tight-part (l .u) ((l .a ∷ l .c) ++ l .t) (subst (AllTight m net table) (l .is) t) in
-          record { at = l .at; last = l .a; rest = l .c; round = l .round; tight = tight-part (l .a ∷ l .c) (l .t) (q .1) .0 }
+          record { at = l .at; last = l .a; rest = l .c; round = l .round; tight = loop-tight (b .at) j (a ∷ w) l t }
 
   pub behind-more : (n : ℕ) (a j : ℕ) → Tight m net table a → net .end a ≡ j → Behind n (net .start a) → Behind (suc n) j
   behind-more n a j t e r = record { at = r .at; way = a ∷ r .way; leads = (t .is-open, e, r .leads); many = ap suc (r .many); tight = (t, r .tight) }

@@ -8,7 +8,7 @@ use lib.ListN.{length, take, length-take}
 use Rattle.std.specs.declared.cmp.Ordering.{Ordering}
 use Rattle.std.specs.declared.cmp.Ordering.the-variants.{Less, Equal, Greater}
 use Rattle.measure.specs.Algebra.{Algebra, Laws, Before}
-use Rattle.walks.specs.Rows.{In, Above, Ascending, Covers}
+use Rattle.walks.specs.Rows.{In, BeforeAll, Ascending, Covers}
 use Rattle.walks.specs.Method.{choose, place}
 use Rattle.walks.proofs.Orders.{greater}
 use Rattle.walks.proofs.Rows.{above-in, above-trans}
@@ -20,7 +20,7 @@ in-take (suc k) (x ∷ xs) z (inl e) = inl e
 in-take (suc k) (x ∷ xs) z (inr i) = inr (in-take k xs z i)
 
 module _ {V : Type 0} (m : Algebra V) where
-  above-take : (k : ℕ) (y : V) (xs : List V) → Above m y xs → Above m y (take k xs)
+  above-take : (k : ℕ) (y : V) (xs : List V) → BeforeAll m y xs → BeforeAll m y (take k xs)
   above-take zero y xs h = tt
   above-take (suc k) y [] h = h
   above-take (suc k) y (x ∷ xs) h = (h .0, above-take k y xs (h .1))
@@ -64,7 +64,7 @@ module _ {V : Type 0} {m : Algebra V} (laws : Laws m) where
       go ih Equal = h
       go ih Greater = omega arith
 
-  above-all : (y : V) (xs : List V) → ((z : V) → In z xs → Before m y z) → Above m y xs
+  above-all : (y : V) (xs : List V) → ((z : V) → In z xs → Before m y z) → BeforeAll m y xs
   above-all y [] h = tt
   above-all y (x ∷ xs) h = (h x (inl refl), above-all y xs (λ z i. h z (inr i)))
 

@@ -6,16 +6,16 @@ use Prim.Native.Nat.{ℕ, suc, zero, _≤_, _<_}
 use native.Mathlib.Omega.{arith}
 use lib.ListN.{length}
 use Rattle.measure.specs.Algebra.{Algebra, Laws, Before}
-use Rattle.walks.specs.Rows.{In, Above, Ascending, Covers}
+use Rattle.walks.specs.Rows.{In, BeforeAll, Ascending, Covers}
 use Rattle.walks.proofs.Orders.{never, before-not}
 
 module _ {V : Type 0} {m : Algebra V} (laws : Laws m) where
-  pub above-in : (y z : V) (ys : List V) → Above m y ys → In z ys → Before m y z
+  pub above-in : (y z : V) (ys : List V) → BeforeAll m y ys → In z ys → Before m y z
   above-in y z [] h i = absurd i
   above-in y z (x ∷ xs) h (inl e) = subst (Before m y) (sym e) (h .0)
   above-in y z (x ∷ xs) h (inr i) = above-in y z xs (h .1) i
 
-  pub above-trans : (x y : V) (ys : List V) → Before m x y → Above m y ys → Above m x ys
+  pub above-trans : (x y : V) (ys : List V) → Before m x y → BeforeAll m y ys → BeforeAll m x ys
   above-trans x y [] l h = tt
   above-trans x y (z ∷ zs) l h = (laws .transitive x y z l (h .0), above-trans x y zs l (h .1))
 

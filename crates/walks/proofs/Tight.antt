@@ -126,11 +126,13 @@ module _ {V : Type 0} {m : Algebra V} (laws : Laws m) (net : Network V) (formed 
         let wt = weight-append laws net u (a ∷ t) in
         let first = heads-low v (net .start a) h t (omega arith) back head in
         let second = heads-low (net .start a) (net .end a) (first .value) (a ∷ []) (omega arith) (o, refl, refl) (first .head) in
-        let third = heads-low (net .end a) v (second .value) u (omega arith) on (second .head) in
         go (first .value) (second .value) (first .head) (second .head) (subst (λ z. ¬ Before m (m .plus (first .value) z) (second .value)) (laws .null-left (net .arc-length a)) (second .low))
         (slack h (first .value) (second .value) u a t spare none (light v h (omega arith) head) (light (net .start a) (first .value) (omega arith) (first .head)) (light (net .end a) (second .value) (omega arith) (second .head)) (first .low)
-        (subst (λ z. ¬ Before m (m .plus (second .value) (walk-length m net u)) z) (head-once m net table v (third .value) h (third .head) head) (third .low)))
+        (home (second .value) u (heads-low (net .end a) v (second .value) u (omega arith) on (second .head))))
       where
+        home : (y : V) (u : List ℕ) → Low v (m .plus y (walk-length m net u)) → ¬ Before m (m .plus y (walk-length m net u)) h
+        home y u low = subst (λ z. ¬ Before m (m .plus y (walk-length m net u)) z) (head-once m net table v (low .value) h (low .head) head) (low .low)
+
         go : (x y : V) → FirstLength m net table (net .start a) x → FirstLength m net table (net .end a) y → ¬ Before m (m .plus x (net .arc-length a)) y → (Before m y (m .plus x (net .arc-length a)) → ⊥) → Tight m net table a
         go x y p q low clash = by (three laws y (m .plus x (net .arc-length a)))
           where
