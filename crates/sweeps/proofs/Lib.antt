@@ -1,0 +1,11 @@
+pub mod Placing
+pub mod Working
+pub mod Noding
+pub mod Bridge
+pub mod Passing
+pub mod Looping
+pub mod Standing
+pub mod Checking
+pub mod Ranking
+pub mod Rings
+pub mod Wholes

@@ -24,7 +24,7 @@ use Rattle.sweeps.specs.Tables.{network, InOrder, RowsHeld, Whether, Cleared}
 -- why a solve of n nodes by an order of k and s is refused before it looks at an arc, if it is; the tables have so many value and count cells
 abbrev pub solve-verdict : ℕ → ℕ → ℕ → ℕ → ℕ → Option Refusal
 solve-verdict n k s values counts =
-  cond (eqb n 0 || ltb 1000 n) (Some NodeCount) (cond (ltb n s) (Some NoSuchNode) (cond (ltb values (n * k) || ltb counts n) (Some ShortTables) None))
+    cond (eqb n 0 || ltb 1000 n) (Some NodeCount) (cond (ltb n s) (Some NoSuchNode) (cond (ltb values (n * k) || ltb counts n) (Some ShortTables) None))
 
 module _ {V : Type 0} (m : Algebra V) (net : Network V) (k s : ℕ) where
   -- settled as the method says, with its rows in the tables, and these are the first k distinct lengths of walks to each node

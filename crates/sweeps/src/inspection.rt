@@ -15,7 +15,12 @@ fn fits<M: Measure>(nodes: usize, arc: Arc, x: M) -> bool
 {
     let start = arc.start as usize;
     let end = arc.end as usize;
-    1 <= start && start <= nodes && 1 <= end && end <= nodes && start != end && x.magnitude() <= LONGEST
+    1 <= start
+        && start <= nodes
+        && 1 <= end
+        && end <= nodes
+        && start != end
+        && x.magnitude() <= LONGEST
 }
 
 // Whether every arc is as it must be, and ends do not descend.

@@ -74,7 +74,16 @@ pub fn work_node<M: Measure>(
         let arc = arcs[a];
         if taken(arc, down, j) {
             let from = arc.start as usize;
-            let done = work_arc(values, k, from, counts[from - 1], j, count, changed, lengths[a]);
+            let done = work_arc(
+                values,
+                k,
+                from,
+                counts[from - 1],
+                j,
+                count,
+                changed,
+                lengths[a],
+            );
             count = done.0;
             changed = done.1;
         }

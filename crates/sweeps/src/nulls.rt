@@ -11,7 +11,13 @@ use super::rows::same;
 use measure::Measure;
 
 // The first length of node j.
-fn first_length<M: Measure>(j: usize, nodes: usize, k: usize, values: &[M], counts: &[usize]) -> Option<M>
+fn first_length<M: Measure>(
+    j: usize,
+    nodes: usize,
+    k: usize,
+    values: &[M],
+    counts: &[usize],
+) -> Option<M>
     requires shape { ⌜ Shape nodes k (length (now values)) (now counts) ⌝ }
     requires some { ⌜ 1 ≤ k ⌝ }
     requires low { ⌜ 1 ≤ j ⌝ }
@@ -138,7 +144,17 @@ fn rank<M: Measure>(
 {
     let mut ranked = 0;
     loop {
-        let total = scan(nodes, k, arcs, lengths, first, values, counts, ranks, ranked);
+        let total = scan(
+            nodes,
+            k,
+            arcs,
+            lengths,
+            first,
+            values,
+            counts,
+            ranks,
+            ranked,
+        );
         if total == ranked {
             break;
         }

@@ -48,7 +48,17 @@ fn pass_up<M: Measure>(
 {
     let mut changed = false;
     for done in 0..nodes {
-        let moved = work_node(false, done + 1, nodes, k, arcs, lengths, first, values, counts);
+        let moved = work_node(
+            false,
+            done + 1,
+            nodes,
+            k,
+            arcs,
+            lengths,
+            first,
+            values,
+            counts,
+        );
         if moved {
             changed = true;
         }

@@ -68,7 +68,14 @@ pub fn solve<M: Measure>(
     if values.len() < cells || counts.len() < nodes {
         return Err(Refusal::ShortTables);
     }
-    match fill(nodes, order, arcs, lengths, &mut values[0..cells], &mut counts[0..nodes]) {
+    match fill(
+        nodes,
+        order,
+        arcs,
+        lengths,
+        &mut values[0..cells],
+        &mut counts[0..nodes],
+    ) {
         Some(found) => Ok(found),
         None => Err(Refusal::NegativeCircuit),
     }

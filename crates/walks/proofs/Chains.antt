@@ -57,12 +57,12 @@ module _ {V : Type 0} {m : Algebra V} (laws : Laws m) (net : Network V) (s : ℕ
       let mu = magnitude-walk laws net u (omega arith) in
       let mct = magnitude-walk laws net (c ++ t) (omega arith) in
       let inner : Before m (walk-length m net t) (walk-length m net (c ++ t)) =
-          subst (λ x. Before m x (walk-length m net (c ++ t))) (laws .null-right (walk-length m net t))
-          (subst (Before m (m .plus (walk-length m net t) (m .null))) (sym (walk-length-append laws net c t (omega arith)))
-              (laws .left-monotone (m .null) (walk-length m net c) (walk-length m net t) l (omega arith) (omega arith))) in
+      subst (λ x. Before m x (walk-length m net (c ++ t))) (laws .null-right (walk-length m net t))
+      (subst (Before m (m .plus (walk-length m net t) (m .null))) (sym (walk-length-append laws net c t (omega arith)))
+      (laws .left-monotone (m .null) (walk-length m net c) (walk-length m net t) l (omega arith) (omega arith))) in
       subst (λ x. Before m x (walk-length m net (u ++ (c ++ t)))) (sym (walk-length-append laws net u t (omega arith)))
       (subst (Before m (m .plus (walk-length m net t) (walk-length m net u))) (sym (walk-length-append laws net u (c ++ t) counted))
-          (laws .right-monotone (walk-length m net t) (walk-length m net (c ++ t)) (walk-length m net u) inner (omega arith) (omega arith)))
+      (laws .right-monotone (walk-length m net t) (walk-length m net (c ++ t)) (walk-length m net u) inner (omega arith) (omega arith)))
 
   -- a null circuit changes no length
   pub same-length : (u c t : List ℕ) → Counted m net (u ++ (c ++ t)) → walk-length m net c ≡ m .null → walk-length m net (u ++ t) ≡ walk-length m net (u ++ (c ++ t))
@@ -103,6 +103,7 @@ module _ {V : Type 0} {m : Algebra V} (laws : Laws m) (net : Network V) (s : ℕ
       where
         within : Counted m net ((a ∷ c) ++ t)
         within = omega (arith, weight-append laws net u ((a ∷ c) ++ t))
+
         go : Three m (walk-length m net (a ∷ c)) (m .null) → Rank m i row (walk-length m net (u ++ t)) ⊎ Shorter m net s v t → Rank m (suc i) row (walk-length m net (u ++ ((a ∷ c) ++ t))) ⊎ Shorter m net s v ((a ∷ c) ++ t)
         go (before l) q = absurd (no-negative (record { at = v; way = t; leads = h; way-counted = omega (arith, weight-append laws net (a ∷ c) t, within); last = a; rest = c; round = round; counted = omega (arith, weight-append laws net (a ∷ c) t, within); admitted = l }))
         go (same e) q = inr (leave-out v a c t round h within e)
@@ -125,11 +126,10 @@ module _ {V : Type 0} {m : Algebra V} (laws : Laws m) (net : Network V) (s : ℕ
         let shorter : length (r .first) < length (a ∷ t) = omega (arith, ap length (r .is), length-append (r .then) (r .first)) in
         subst (λ l. Rank m (suc i) row (walk-length m net (u ++ (a ∷ l))) ⊎ Shorter m net s v (a ∷ l)) (sym (r .is))
         (step i a (r .then) (r .first) le (h .0, h .1, r .on) (r .leads) counted′ (ih (r .first) (r .leads) within shorter)
-            (chain i (r .first) (omega arith) (r .leads) within (r .often) (λ t′ h′ f′ l. ih t′ h′ f′ (omega arith))))
+        (chain i (r .first) (omega arith) (r .leads) within (r .often) (λ t′ h′ f′ l. ih t′ h′ f′ (omega arith))))
 
 module _ {V : Type 0} {m : Algebra V} (laws : Laws m) (net : Network V) (formed : WellFormed m net) (s : ℕ) (low : 1 ≤ s) (high : s ≤ net .nodes) (no-negative : ¬ NegativeCircuit m net s) (k : ℕ) (table : Table V)
     (short : (j : ℕ) (w : List ℕ) → Walk net s j w → Counted m net w → length w < net .nodes * k → Covers m k (table j) (walk-length m net w)) where
-
   -- one round of the induction on the number of arcs
   round : (n j : ℕ) (w : List ℕ) → length w ≤ n → Walk net s j w → Counted m net w
       → ((w′ : List ℕ) → Walk net s j w′ → Counted m net w′ → length w′ < n → Covers m k (table j) (walk-length m net w′)) → Covers m k (table j) (walk-length m net w)
@@ -140,15 +140,19 @@ module _ {V : Type 0} {m : Algebra V} (laws : Laws m) (net : Network V) (formed 
         where
           within : Counted m net (r .then ++ r .first)
           within = subst (Counted m net) (r .is) counted
+
           size : length w ≡ length (r .then) + length (r .first)
           size = ap length (r .is) ∙ length-append (r .then) (r .first)
+
           less : (t′ : List ℕ) → Walk net s v t′ → Counted m net (r .then ++ t′) → length t′ < length (r .first) → Covers m k (table j) (walk-length m net (r .then ++ t′))
           less t′ h′ f′ l = ih (r .then ++ t′) (walk-append net s v j (r .then) t′ (r .on) h′) f′ (omega (arith, length-append (r .then) t′, size))
+
           end : Rank m k (table j) (walk-length m net (r .then ++ r .first)) ⊎ Shorter m net s v (r .first) → Covers m k (table j) (walk-length m net (r .then ++ r .first))
           end (inl q) = rank-covers laws k (table j) (walk-length m net (r .then ++ r .first)) q
           end (inr q) =
               let p = shorter-on laws net s v j (r .then) (r .first) (r .on) within q in
               subst (Covers m k (table j)) (p .is) (ih (p .way) (p .leads) (omega (arith, p .lighter, within)) (omega (arith, p .fewer, size, length-append (r .then) (r .first))))
+
       go : Dec (length w < net .nodes * k) → Covers m k (table j) (walk-length m net w)
       go (yes l) = short j w h counted l
       go (no l) =

@@ -43,11 +43,13 @@ module _ {V : Type 0} {m : Algebra V} (net : Network V) (formed : WellFormed m n
     where
       f : Full (visits net x w) (net .nodes) 1
       f = crowded {m = m} net formed x low high w j 1 h (omega arith)
+
       inner : (v : ℕ) (u t : List ℕ) → w ≡ u ++ t → Walk net v j u → Walk net x v t → 2 ≤ visits net x t v → Looped net x j w
       inner v u [] e on l many = absurd (omega (arith, one-most x v))
       inner v u (a ∷ t) e on l many =
           let r = visit net x t (net .start a) v 1 (l .2) (omega arith) (omega (arith, one-most (net .end a) v)) in
           record { at = v; u = u; a = a; c = r .then; t = r .first; is = e ∙ ap (λ l′. u ++ (a ∷ l′)) (r .is); leads = r .leads; round = (l .0, l .1, r .on); on = on }
+
       outer : (v : ℕ) → Visit net x w j v 2 → Looped net x j w
       outer v r = inner v (r .then) (r .first) (r .is) (r .on) (r .leads) (r .often)
 
@@ -84,41 +86,57 @@ module _ {V : Type 0} {m : Algebra V} (laws : Laws m) (net : Network V) (formed 
     where
       Hyp : Type 0
       Hyp = (v′ a′ : ℕ) (w′ : List ℕ) → length (a′ ∷ w′) ≤ n → Near net s (net .nodes) v′ → Walk net v′ v′ (a′ ∷ w′) → Counted m net (a′ ∷ w′) → Before m (walk-length m net (a′ ∷ w′)) (m .null) → NearNegative m net s
+
       p : ProperArc m net a
       p = formed a (h .0)
+
       low′ : 1 ≤ v
       low′ = omega (arith, p .end-low, h .1)
+
       high′ : v ≤ net .nodes
       high′ = omega (arith, p .end-high, h .1)
+
       cut : Hyp → Looped net v (net .start a) w → NearNegative m net s
       cut ih r = by (three laws (walk-length m net (r .a ∷ r .c)) (m .null))
         where
           u : List ℕ
           u = a ∷ r .u
+
           d : List ℕ
           d = r .a ∷ r .c
+
           is : a ∷ w ≡ u ++ (d ++ r .t)
           is = ap (λ l. a ∷ l) (r .is)
+
           within : Counted m net (u ++ (d ++ r .t))
           within = subst (Counted m net) is counted
+
           less′ : Before m (walk-length m net (u ++ (d ++ r .t))) (m .null)
           less′ = subst (λ l. Before m (walk-length m net l) (m .null)) is less
+
           e₁ : weight m net (u ++ (d ++ r .t)) ≡ weight m net (d ++ r .t) + weight m net u
           e₁ = weight-append laws net u (d ++ r .t)
+
           e₂ : weight m net (d ++ r .t) ≡ weight m net (r .t) + weight m net d
           e₂ = weight-append laws net d (r .t)
+
           e₃ : weight m net (u ++ r .t) ≡ weight m net (r .t) + weight m net u
           e₃ = weight-append laws net u (r .t)
+
           l₁ : length (a ∷ w) ≡ length u + (length d + length (r .t))
           l₁ = ap length is ∙ length-append u (d ++ r .t) ∙ ap (λ z. length u + z) (length-append d (r .t))
+
           on : Walk net (r .at) v u
           on = (h .0, h .1, r .on)
+
           shorter : Before m (walk-length m net (u ++ r .t)) (m .null) → NearNegative m net s
           shorter l = ih v a (r .u ++ r .t) (omega (arith, l₁, length-append u (r .t))) there (walk-append net v (r .at) v u (r .t) on (r .leads)) (omega (arith, e₁, e₂, e₃, within)) l
+
           by : Three m (walk-length m net d) (m .null) → NearNegative m net s
           by (before l) = ih (r .at) (r .a) (r .c) (omega (arith, l₁)) (near {m = m} net formed s low high (r .at) (r .t ++ there .way) (walk-append net s v (r .at) (r .t) (there .way) (r .leads) (there .leads))) (r .round) (omega (arith, e₁, e₂, within)) l
           by (same e) = shorter (subst (λ z. Before m z (m .null)) (sym (same-length laws net v u d (r .t) within e)) less′)
           by (after l) = shorter (laws .transitive (walk-length m net (u ++ r .t)) (walk-length m net (u ++ (d ++ r .t))) (m .null) (longer laws net v u d (r .t) within l) less′)
+
       go : Dec (net .nodes < length (a ∷ w)) → Hyp → NearNegative m net s
       go (yes l) ih = cut ih (looped {m = m} net formed v low′ high′ (net .start a) w (h .2) (omega arith))
       go (no l) ih = record { at = v; way = there .way; leads = there .leads; near = there .few; last = a; rest = w; round = h; few = omega arith; less = less }
@@ -141,9 +159,11 @@ module _ {V : Type 0} {m : Algebra V} (laws : Laws m) (net : Network V) (formed 
     where
       c : List ℕ
       c = z .last ∷ z .rest
+
       clash : (x y : V) (ys : List V) → Covers m (suc k) (y ∷ ys) x → Before m x y → ⊥
       clash x y ys (inl e) l = never laws y (subst (λ v. Before m v y) e l)
       clash x y ys (inr q) l = before-not laws y x (q .0) l
+
       from : (y : V) (ys : List V) → table (z .at) ≡ y ∷ ys → Walked m net s b (z .at) y → ⊥
       from y ys e h =
           let w = weight-small laws net s (z .at) (h .walk) formed (h .leads) in
@@ -155,6 +175,7 @@ module _ {V : Type 0} {m : Algebra V} (laws : Laws m) (net : Network V) (formed 
           clash (walk-length m net (c ++ h .walk)) y ys
           (subst (λ row. Covers m (suc k) row (walk-length m net (c ++ h .walk))) e (all (z .at) (c ++ h .walk) (walk-append net s (z .at) (z .at) c (h .walk) (z .round) (h .leads)) counted))
           (subst (Before m (walk-length m net (c ++ h .walk))) (h .is) (round-less laws net s c (h .walk) counted (z .less)))
+
       go : (row : List V) → table (z .at) ≡ row → Covers m (suc k) row (walk-length m net (z .way)) → ⊥
       go [] e q = q
       go (y ∷ ys) e q = from y ys e (sound (z .at) y (subst (In y) (sym e) (inl refl)))

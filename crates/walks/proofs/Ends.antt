@@ -1,21 +1,20 @@
 -- How a solve ends, in words.
 use mathlib.Core.Path.{_≡_, refl, sym, _∙_, ap, subst}
-use mathlib.Core.Logic.{_⊎_, inl, inr}
-use mathlib.Core.Bool.{Bool, true, false, _&&_}
+use mathlib.Core.Bool.{Bool, true, false}
 use mathlib.Core.List.{List, [], _∷_}
-use Prim.Native.Nat.{ℕ, suc, zero, _+_, _-_, _*_, _≤_, _<_}
+use Prim.Native.Nat.{ℕ, suc, zero, _+_, _-_, _≤_, _<_}
 use native.Mathlib.Omega.{arith}
-use native.Mathlib.Decide.{decLe, decLt, ℕ-discrete}
+use native.Mathlib.Decide.{decLt, ℕ-discrete}
 use Rattle.std.proofs.shelf.Tests.{and-parts, and-from, false≢true}
 use Rattle.std.specs.declared.cmp.Ordering.{Ordering}
 use Rattle.std.specs.declared.cmp.Ordering.the-variants.{Less, Equal, Greater}
-use Rattle.measure.specs.Algebra.{Algebra, Laws, Before}
-use Rattle.walks.specs.Networks.{Network, WellFormed}
+use Rattle.measure.specs.Algebra.{Algebra, Laws}
+use Rattle.walks.specs.Networks.{Network}
 use Rattle.walks.specs.Rows.{Table}
 use Rattle.walks.specs.Method.{choose, rows}
-use Rattle.walks.specs.Runs.{Run}
 use Rattle.walks.specs.Solves.{Outcome, settled, refused, ends, same-row, same-rows, quiet, solve-from, last-pass, outcome}
-use Rattle.walks.specs.Theorems.{Unchanged, Settles, NeverSettles, MethodInWords}
+use Rattle.walks.specs.Runs.{Run, Unchanged, Settles, NeverSettles}
+use Rattle.walks.specs.Theorems.{MethodInWords}
 use Rattle.walks.proofs.Method.{rows-run}
 use Rattle.walks.proofs.Once.{rows-once}
 
@@ -41,6 +40,7 @@ module _ {V : Type 0} {m : Algebra V} (laws : Laws m) where
     where
       parts : (same-row m (t (suc n)) (u (suc n)) ≡ true) × (same-rows m n t u ≡ true)
       parts = and-parts (same-row m (t (suc n)) (u (suc n))) (same-rows m n t u) h
+
       go : Dec (j ≡ suc n) → (j ≤ n → t j ≡ u j) → t j ≡ u j
       go (yes e) ih = subst (λ i. t i ≡ u i) (sym e) (row-is (t (suc n)) (u (suc n)) (parts .0))
       go (no e) ih = ih (omega arith)
@@ -77,9 +77,11 @@ module _ {V : Type 0} {m : Algebra V} (laws : Laws m) where
             by : Dec (i ≡ suc q) → ¬ Unchanged net R i
             by (yes e) = subst (λ z. ¬ Unchanged net R z) (sym e) h
             by (no e) = later (omega arith)
+
         move : (o : Outcome) → ¬ Unchanged net R (suc q) → Ending (suc q) left o → Ending q (suc left) o
         move o h (at-rest p e l r u f) = at-rest p e (omega arith) (omega arith) u (λ i a b. first h i a (λ c. f i c b))
         move o h (at-end e f) = at-end e (λ i a b. first h i a (λ c. f i c (omega arith)))
+
         go : (b : Bool) → quiet m net k s q ≡ b → Ending (suc q) left (solve-from m net k s (suc q) left) → Ending q (suc left) (ends b (settled (suc q)) (solve-from m net k s (suc q) left))
         go true e ih = at-rest (suc q) refl (omega arith) (omega arith) (quiet-yes q e) (λ i a b. absurd (omega arith))
         go false e ih = move (solve-from m net k s (suc q) left) (quiet-no q e) ih

@@ -15,7 +15,12 @@ pub mod Traces
 pub mod Tight
 pub mod Once
 pub mod Nulls
+pub mod Reversing
 pub mod Cases
 pub mod Ends
 pub mod Solving
 pub mod Marking
+pub mod Paths
+pub mod Tracing
+pub mod Ways
+pub mod Labels

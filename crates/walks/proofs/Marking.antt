@@ -3,7 +3,6 @@ use mathlib.Core.Path.{_≡_, refl, sym, _∙_, ap, subst}
 use mathlib.Core.Bool.{Bool, true, false, not, _&&_}
 use mathlib.Core.List.{List, [], _∷_, _++_}
 use Prim.Native.Nat.{ℕ, suc, zero, _+_, _*_, _^_, _≤_, _<_}
-use native.Mathlib.Nat.{mul-le-mul}
 use native.Mathlib.Omega.{arith}
 use native.Mathlib.Decide.{ℕ-discrete}
 use lib.Dec.{eqb}
@@ -12,16 +11,15 @@ use Rattle.std.proofs.shelf.Tests.{and-parts, and-from, false≢true, eqb-true,
 use Rattle.std.specs.declared.cmp.Ordering.{Ordering}
 use Rattle.std.specs.declared.cmp.Ordering.the-variants.{Less, Equal, Greater}
 use Rattle.measure.specs.Algebra.{Algebra, Laws}
-use Rattle.walks.specs.Networks.{Network, Open, WellFormed}
+use Rattle.walks.specs.Networks.{Network, WellFormed}
 use Rattle.walks.specs.Walks.{Walk, walk-length, Counted}
 use Rattle.walks.specs.Circuits.{NegativeCircuit, NullCircuit}
 use Rattle.walks.specs.Rows.{Table, Covers}
 use Rattle.walks.specs.Method.{choose, rows}
-use Rattle.walks.specs.Solves.{settled, last-pass, outcome}
-use Rattle.walks.specs.Theorems.{Within, Settles}
-use Rattle.walks.specs.Nulls.{FirstLength, Tight, AllTight, Ring, Held, carries, is-tight, implies, cleared, marked, all-marked, null-found, TellsNulls, NullsTold}
+use Rattle.walks.specs.Runs.{Settles}
+use Rattle.walks.specs.Nulls.{Tight, AllTight, Ring, carries, is-tight, implies, cleared, marked, all-marked, null-found, TellsNulls, NullsTold}
+use Rattle.walks.specs.Theorems.{Within}
 use Rattle.walks.proofs.Lengths.{walk-append}
-use Rattle.walks.proofs.Runs.{Sound}
 use Rattle.walks.proofs.Nulls.{Behind, behind-more, behind-ring, ranked, held-ring, null-ring, ring-null}
 use Rattle.walks.proofs.Ends.{settled-is}
 use Rattle.walks.proofs.Solving.{sound, none-reached, complete, small}
@@ -60,8 +58,8 @@ module _ {V : Type 0} {m : Algebra V} (laws : Laws m) (net : Network V) (t : Tab
   tight-test a h =
       and-from (net .is-open a) (carries m net t (t (net .start a)) (net .arc-length a) (t (net .end a))) (h .is-open .marked)
       (ap (λ r. carries m net t r (net .arc-length a) (t (net .end a))) (h .start .is)
-        ∙ ap (λ r. carries m net t (h .there ∷ h .start .rest) (net .arc-length a) r) (h .end .is)
-        ∙ carries-from (h .there) (net .arc-length a) (h .here) (h .start .rest) (h .end .rest) (h .sum))
+      ∙ ap (λ r. carries m net t (h .there ∷ h .start .rest) (net .arc-length a) r) (h .end .is)
+      ∙ carries-from (h .there) (net .arc-length a) (h .here) (h .start .rest) (h .end .rest) (h .sum))
 
   -- a tight arc to j, of the arcs 1 to n, from a node without a mark
   record Uncleared (mark : ℕ → Bool) (j n : ℕ) : Type 0 where
@@ -76,6 +74,7 @@ module _ {V : Type 0} {m : Algebra V} (laws : Laws m) (net : Network V) (t : Tab
     where
       wider : Uncleared mark j n → Uncleared mark j (suc n)
       wider u = record { arc = u .arc; tight = u .tight; into = u .into; from = u .from }
+
       go : (b : Bool) → (is-tight m net t (suc n) && eqb (net .end (suc n)) j) ≡ b → (c : Bool) → mark (net .start (suc n)) ≡ c → (implies m net t b c && cleared m net t mark j n) ≡ false → (cleared m net t mark j n ≡ false → Uncleared mark j n) → Uncleared mark j (suc n)
       go false e c f q ih = wider (ih q)
       go true e true f q ih = wider (ih q)
@@ -89,8 +88,10 @@ module _ {V : Type 0} {m : Algebra V} (laws : Laws m) (net : Network V) (t : Tab
     where
       parts : (implies m net t (is-tight m net t (suc n) && eqb (net .end (suc n)) j) (mark (net .start (suc n))) ≡ true) × (cleared m net t mark j n ≡ true)
       parts = and-parts (implies m net t (is-tight m net t (suc n) && eqb (net .end (suc n)) j) (mark (net .start (suc n)))) (cleared m net t mark j n) h
+
       holds : a ≡ suc n → (is-tight m net t (suc n) && eqb (net .end (suc n)) j) ≡ true
       holds f = and-from (is-tight m net t (suc n)) (eqb (net .end (suc n)) j) (subst (λ b. is-tight m net t b ≡ true) f (tight-test a q)) (eq-eqb (net .end (suc n)) j (ap (λ b. net .end b) (sym f) ∙ e))
+
       go : Dec (a ≡ suc n) → (a ≤ n → mark (net .start a) ≡ true) → mark (net .start a) ≡ true
       go (yes f) ih = subst (λ b. mark (net .start b) ≡ true) (sym f) (subst (λ b. implies m net t b (mark (net .start (suc n))) ≡ true) (holds f) (parts .0))
       go (no f) ih = ih (omega arith)
@@ -149,6 +150,7 @@ module _ {V : Type 0} {m : Algebra V} (laws : Laws m) (net : Network V) (t : Tab
     where
       parts : (marked m net t (net .nodes) (suc n) ≡ true) × (all-marked m net t n ≡ true)
       parts = and-parts (marked m net t (net .nodes) (suc n)) (all-marked m net t n) h
+
       go : Dec (j ≡ suc n) → (j ≤ n → marked m net t (net .nodes) j ≡ true) → marked m net t (net .nodes) j ≡ true
       go (yes e) ih = subst (λ i. marked m net t (net .nodes) i ≡ true) (sym e) (parts .0)
       go (no e) ih = ih (omega arith)
@@ -184,14 +186,19 @@ module _ {V : Type 0} {m : Algebra V} {net : Network V} {k s : ℕ} (laws : Laws
     where
       t : Table V
       t = rows m net (suc k) s (suc (suc q))
+
       room : suc (suc q) * net .nodes * 10 ^ 9 + net .nodes * 10 ^ 9 ≤ 2 ^ 62
       room = let z = small laws g (suc (suc (suc q))) (omega (arith, h .in-time)) in omega arith
+
       none : ¬ NegativeCircuit m net s
       none = none-reached laws g q (h .in-time) (h .unchanged)
+
       all : (j : ℕ) (w : List ℕ) → Walk net s j w → Counted m net w → Covers m (suc k) (t j) (walk-length m net w)
       all = complete laws g q (h .in-time) (h .unchanged)
+
       to : NullCircuit m net s → Ring m net t
       to = null-ring laws net (g .formed) s k (suc (suc q) * net .nodes) (g .s-low) (g .s-high) none t room (sound laws g (suc (suc q))) all
+
       back : Ring m net t → NullCircuit m net s
       back = ring-null laws net (g .formed) s k (suc (suc q) * net .nodes) (g .s-low) (g .s-high) none t room (sound laws g (suc (suc q))) all
 

@@ -41,7 +41,7 @@ module _ {V : Type 0} (net : Network V) (down : Bool) (j : ℕ) where
   uses-no a h u =
       both-ways (uses net down j a) h
       (and-from (net .is-open a) (eqb (net .end a) j && takes down (net .start a) j) (u .is-open .marked)
-          (and-from (eqb (net .end a) j) (takes down (net .start a) j) (eq-eqb (net .end a) j (u .into)) (takes-from down (net .start a) j (u .taken))))
+      (and-from (eqb (net .end a) j) (takes down (net .start a) j) (eq-eqb (net .end a) j (u .into)) (takes-from down (net .start a) j (u .taken))))
 
 pub put-here : {V : Type 0} (t : Table V) (j : ℕ) (row : List V) → put t j row j ≡ row
 put-here t j row = cond-true (eqb j j) row (t j) (eq-eqb j j refl)
@@ -66,6 +66,7 @@ module _ {V : Type 0} {m : Algebra V} (laws : Laws m) (net : Network V) (k s : �
       from : (v : V) → (v ≡ x) ⊎ In v row → P v ⊎ (v ≡ x)
       from v (inl e) = inr e
       from v (inr i) = inl (h .from v i)
+
       covers : (v : V) → P v ⊎ (v ≡ x) → Covers m k (place m k x row) v
       covers v (inl p) = place-keeps laws k x row v (h .covers v p)
       covers v (inr e) = rw e (place-covers laws k x row)
@@ -95,9 +96,11 @@ module _ {V : Type 0} {m : Algebra V} (laws : Laws m) (net : Network V) (k s : �
       to v (inl (inl p)) = inl p
       to v (inl (inr e)) = inr (record { value = x; there = inl refl; sum = e })
       to v (inr q) = inr (record { value = q .value; there = inr (q .there); sum = q .sum })
+
       which : (v y : V) → v ≡ m .plus y l → In y (x ∷ xs) → (P v ⊎ (v ≡ m .plus x l)) ⊎ Shifted xs l v
       which v y e (inl f) = inl (inr (e ∙ ap (λ z. m .plus z l) f))
       which v y e (inr i) = inr (record { value = y; there = i; sum = e })
+
       back : (v : V) → P v ⊎ Shifted (x ∷ xs) l v → (P v ⊎ (v ≡ m .plus x l)) ⊎ Shifted xs l v
       back v (inl p) = inl (inl p)
       back v (inr q) = which v (q .value) (q .sum) (q .there)
@@ -118,8 +121,10 @@ module _ {V : Type 0} {m : Algebra V} (laws : Laws m) (net : Network V) (k s : �
       where
         a : ℕ
         a = suc n
+
         src : List V
         src = t (net .start a)
+
         go : (d : Bool) → uses net down j a ≡ d → FirstOf m k (λ x. In x (t j) ⊎ Upto n x) (gather m net k s down t j n)
             → FirstOf m k (λ x. In x (t j) ⊎ Upto a x) (offer m net k s d src (net .arc-length a) (gather m net k s down t j n))
         go true e h =
@@ -128,13 +133,16 @@ module _ {V : Type 0} {m : Algebra V} (laws : Laws m) (net : Network V) (k s : �
           where
             u : Uses net down j a
             u = uses-yes net down j a (omega arith) le e
+
             to : (v : V) → (In v (t j) ⊎ Upto n v) ⊎ Shifted src (net .arc-length a) v → In v (t j) ⊎ Upto a v
             to v (inl (inl p)) = inl p
             to v (inl (inr q)) = inr (record { joined = q .joined; early = omega (arith, q .early) })
             to v (inr q) = inr (record { joined = record { arc = a; is-open = u .is-open; into = u .into; taken = u .taken; old = q .value; there = q .there; sum = q .sum }; early = omega arith })
+
             which : (v : V) (q : Upto a v) → Dec (q .joined .arc ≡ a) → (In v (t j) ⊎ Upto n v) ⊎ Shifted src (net .arc-length a) v
             which v q (yes e) = inr (record { value = q .joined .old; there = subst (λ b. In (q .joined .old) (t (net .start b))) e (q .joined .there); sum = q .joined .sum ∙ ap (λ b. m .plus (q .joined .old) (net .arc-length b)) e })
             which v q (no e) = inl (inr (record { joined = q .joined; early = omega (arith, q .early) }))
+
             back : (v : V) → In v (t j) ⊎ Upto a v → (In v (t j) ⊎ Upto n v) ⊎ Shifted src (net .arc-length a) v
             back v (inl p) = inl (inl p)
             back v (inr q) = which v q (ℕ-discrete (q .joined .arc) a)
@@ -143,9 +151,11 @@ module _ {V : Type 0} {m : Algebra V} (laws : Laws m) (net : Network V) (k s : �
             to : (v : V) → In v (t j) ⊎ Upto n v → In v (t j) ⊎ Upto a v
             to v (inl p) = inl p
             to v (inr q) = inr (record { joined = q .joined; early = omega (arith, q .early) })
+
             which : (v : V) (q : Upto a v) → Dec (q .joined .arc ≡ a) → In v (t j) ⊎ Upto n v
             which v q (yes e′) = absurd (uses-no net down j a e (subst (Uses net down j) e′ (record { is-open = q .joined .is-open; into = q .joined .into; taken = q .joined .taken })))
             which v q (no e) = inr (record { joined = q .joined; early = omega (arith, q .early) })
+
             back : (v : V) → In v (t j) ⊎ Upto a v → In v (t j) ⊎ Upto n v
             back v (inl p) = inl p
             back v (inr q) = which v q (ℕ-discrete (q .joined .arc) a)
@@ -158,6 +168,7 @@ module _ {V : Type 0} {m : Algebra V} (laws : Laws m) (net : Network V) (k s : �
         to : (v : V) → In v (t j) ⊎ Upto (net .arcs) v → In v (t j) ⊎ Joined m net k s down t j v
         to v (inl p) = inl p
         to v (inr q) = inr (q .joined)
+
         back : (v : V) → In v (t j) ⊎ Joined m net k s down t j v → In v (t j) ⊎ Upto (net .arcs) v
         back v (inl p) = inl p
         back v (inr q) = inr (record { joined = q; early = q .is-open .high })
@@ -177,6 +188,7 @@ module _ {V : Type 0} {m : Algebra V} (laws : Laws m) (net : Network V) (k s : �
       to : (x : V) → In x (o j) ⊎ Joined m net k s down t j x → In x (o′ j) ⊎ Joined m net k s down t′ j x
       to x (inl p) = inl (subst (In x) e p)
       to x (inr q) = inr (joined-in down t t′ j x same q)
+
       back : (x : V) → In x (o′ j) ⊎ Joined m net k s down t′ j x → In x (o j) ⊎ Joined m net k s down t j x
       back x (inl p) = inl (subst (In x) (sym e) p)
       back x (inr q) = inr (joined-in down t′ t j x (λ i l. sym (same i l)) q)
@@ -187,6 +199,7 @@ module _ {V : Type 0} {m : Algebra V} (laws : Laws m) (net : Network V) (k s : �
       up : (i : ℕ) → Dec (i ≡ j) → Ascending m (work m net k s down t j i)
       up i (yes e) = rw e (work-first down t neat j .ascending)
       up i (no e) = rw (work-other down t neat j i e) (neat .up i)
+
       short : (i : ℕ) → Dec (i ≡ j) → length (work m net k s down t j i) ≤ k
       short i (yes e) = rw e (work-first down t neat j .short)
       short i (no e) = rw (work-other down t neat j i e) (neat .short i)
@@ -205,14 +218,19 @@ module _ {V : Type 0} {m : Algebra V} (laws : Laws m) (net : Network V) (k s : �
     where
       t₁ : Table V
       t₁ = work m net k s true t (suc n)
+
       neat₁ : Neat m net k s t₁
       neat₁ = work-neat true t (suc n) neat
+
       new : Table V
       new = sweep-down m net k s n t₁
+
       kept : (i : ℕ) → suc n < i → t i ≡ new i
       kept i l = sym (down-other n t₁ neat₁ i (λ i′ p q. omega arith) ∙ work-other true t neat (suc n) i (omega arith))
+
       last : FirstOf m k (λ x. In x (t (suc n)) ⊎ Joined m net k s true new (suc n) x) (new (suc n))
       last = rw (down-other n t₁ neat₁ (suc n) (λ i p q. omega arith)) (moved true t t t new (suc n) (t₁ (suc n)) refl kept (work-first true t neat (suc n)))
+
       go : Dec (j ≡ suc n) → (j ≤ n → FirstOf m k (λ x. In x (t₁ j) ⊎ Joined m net k s true new j x) (new j)) → FirstOf m k (λ x. In x (t j) ⊎ Joined m net k s true new j x) (new j)
       go (yes e) ih = subst (λ i. FirstOf m k (λ x. In x (t i) ⊎ Joined m net k s true new i x) (new i)) (sym e) last
       go (no e) ih = moved true t₁ t new new j (new j) (work-other true t neat (suc n) j e) (λ i l. refl) (ih (omega arith))
@@ -232,14 +250,19 @@ module _ {V : Type 0} {m : Algebra V} (laws : Laws m) (net : Network V) (k s : �
     where
       t₁ : Table V
       t₁ = sweep-up m net k s n t
+
       neat₁ : Neat m net k s t₁
       neat₁ = up-neat n t neat
+
       new : Table V
       new = work m net k s false t₁ (suc n)
+
       kept : (i : ℕ) → ¬ (i ≡ suc n) → t₁ i ≡ new i
       kept i l = sym (work-other false t₁ neat₁ (suc n) i l)
+
       last : FirstOf m k (λ x. In x (t (suc n)) ⊎ Joined m net k s false new (suc n) x) (new (suc n))
       last = moved false t₁ t t₁ new (suc n) (new (suc n)) (up-other n t neat (suc n) (λ i p q. omega arith)) (λ i l. kept i (omega arith)) (work-first false t₁ neat₁ (suc n))
+
       go : Dec (j ≡ suc n) → (j ≤ n → FirstOf m k (λ x. In x (t j) ⊎ Joined m net k s false t₁ j x) (t₁ j)) → FirstOf m k (λ x. In x (t j) ⊎ Joined m net k s false new j x) (new j)
       go (yes e) ih = subst (λ i. FirstOf m k (λ x. In x (t i) ⊎ Joined m net k s false new i x) (new i)) (sym e) last
       go (no e) ih = rw (← (kept j e)) (moved false t t t₁ new j (t₁ j) refl (λ i l. kept i (omega arith)) (ih (omega arith)))
@@ -268,11 +291,14 @@ module _ {V : Type 0} {m : Algebra V} (laws : Laws m) (net : Network V) (k s : �
       where
         row : List V
         row = m .null ∷ []
+
         all : FirstOf m k (λ x. In x row) row
         all = first-self row (tt, tt) (omega arith)
+
         to : j ≡ s → (v : V) → In v row → (j ≡ s) × (v ≡ m .null)
         to e v (inl p) = (e, p)
         to e v (inr p) = absurd p
+
         go : Dec (j ≡ s) → FirstOf m k (λ x. (j ≡ s) × (x ≡ m .null)) (rows m net k s 0 j)
         go (yes e) = subst (FirstOf m k (λ x. (j ≡ s) × (x ≡ m .null))) (sym (ap (put (λ i. []) s row) e ∙ put-here (λ i. []) s row)) (first-iff (λ x. In x row) (λ x. (j ≡ s) × (x ≡ m .null)) row (to e) (λ v p. inl (p .1)) all)
         go (no e) = rw (put-there (λ i. []) s row j e) (record { ascending = tt; short = omega arith; from = λ v i. absurd i; covers = λ v p. absurd (e (p .0)) })

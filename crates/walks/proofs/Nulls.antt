@@ -1,6 +1,6 @@
 -- Whether a null circuit is reached, by tight arcs.
 use mathlib.Core.Path.{_≡_, refl, sym, _∙_, ap, subst}
-use mathlib.Core.Bool.{Bool, true, false}
+use mathlib.Core.Bool.{Bool, false}
 use mathlib.Core.List.{List, [], _∷_, _++_}
 use Prim.Native.Nat.{ℕ, suc, zero, _+_, _*_, _^_, _≤_, _<_}
 use native.Mathlib.Omega.{arith}
@@ -40,39 +40,62 @@ module _ {V : Type 0} {m : Algebra V} (laws : Laws m) (net : Network V) (formed 
     where
       Hyp : Type 0
       Hyp = (v′ a′ : ℕ) (w′ : List ℕ) → length (a′ ∷ w′) ≤ n → Near net s (net .nodes) v′ → Walk net v′ v′ (a′ ∷ w′) → Counted m net (a′ ∷ w′) → walk-length m net (a′ ∷ w′) ≡ m .null → NearNull m net s
+
       cut : Hyp → Looped net v (net .start a) w → NearNull m net s
       cut ih r = by (three laws (walk-length m net d) (m .null))
         where
           u : List ℕ
           u = a ∷ r .u
+
           d : List ℕ
           d = r .a ∷ r .c
+
           is : a ∷ w ≡ u ++ (d ++ r .t)
           is = ap (λ l. a ∷ l) (r .is)
+
           within : Counted m net (u ++ (d ++ r .t))
           within = subst (Counted m net) is counted
+
           e₁ : weight m net (u ++ (d ++ r .t)) ≡ weight m net (d ++ r .t) + weight m net u
           e₁ = weight-append laws net u (d ++ r .t)
+
           e₂ : weight m net (d ++ r .t) ≡ weight m net (r .t) + weight m net d
           e₂ = weight-append laws net d (r .t)
+
           e₃ : weight m net (u ++ r .t) ≡ weight m net (r .t) + weight m net u
           e₃ = weight-append laws net u (r .t)
+
           l₁ : length (a ∷ w) ≡ length u + (length d + length (r .t))
           l₁ = ap length is ∙ length-append u (d ++ r .t) ∙ ap (λ z. length u + z) (length-append d (r .t))
+
           on : Walk net (r .at) v u
           on = (h .0, h .1, r .on)
+
           way : List ℕ
           way = r .t ++ there .way
+
           leads : Walk net s (r .at) way
           leads = walk-append net s v (r .at) (r .t) (there .way) (r .leads) (there .leads)
+
           close : Near net s (net .nodes) (r .at)
           close = near {m = m} net formed s low high (r .at) way leads
+
           by : Three m (walk-length m net d) (m .null) → NearNull m net s
           by (before l) = absurd (no-negative (record { at = r .at; way = close .way; leads = close .leads; way-counted = near-counted (r .at) close; last = r .a; rest = r .c; round = r .round; counted = omega (arith, e₁, e₂, within); admitted = l }))
           by (same e) = ih (r .at) (r .a) (r .c) (omega (arith, l₁)) close (r .round) (omega (arith, e₁, e₂, within)) e
           by (after l) =
-              absurd (no-negative (record { at = v; way = there .way; leads = there .leads; way-counted = near-counted v there; last = a; rest = r .u ++ r .t; round = walk-append net v (r .at) v u (r .t) on (r .leads); counted = omega (arith, e₁, e₂, e₃, within);
-                admitted = subst (Before m (walk-length m net (u ++ r .t))) (ap (walk-length m net) (sym is) ∙ none) (longer laws net v u d (r .t) within l) }))
+              absurd (no-negative (record {
+                at = v;
+                way = there .way;
+                leads = there .leads;
+                way-counted = near-counted v there;
+                last = a;
+                rest = r .u ++ r .t;
+                round = walk-append net v (r .at) v u (r .t) on (r .leads);
+                counted = omega (arith, e₁, e₂, e₃, within);
+                admitted = subst (Before m (walk-length m net (u ++ r .t))) (ap (walk-length m net) (sym is) ∙ none) (longer laws net v u d (r .t) within l);
+              }))
+
       go : Dec (net .nodes < length (a ∷ w)) → Hyp → NearNull m net s
       go (yes l) ih = let p = formed a (h .0) in let e = h .1 in cut ih (looped {m = m} net formed v (omega arith) (omega arith) (net .start a) w (h .2) (omega arith))
       go (no l) ih = record { at = v; near = there; last = a; rest = w; round = h; few = omega arith; none = none }
@@ -94,6 +117,13 @@ module _ {V : Type 0} (m : Algebra V) (net : Network V) (table : Table V) where
   tight-part [] t h = (tt, h)
   tight-part (a ∷ u) t h = let r = tight-part u t (h .1) in ((h .0, r .0), r .1)
 
+  -- a loop on a way of tight arcs is a ring
+  loop-tight : (x j : ℕ) (w : List ℕ) (r : Looped net x j w) → AllTight m net table w → AllTight m net table (r .a ∷ r .c)
+  loop-tight x j w r t = tight-part (r .a ∷ r .c) (r .t) (tight-part (r .u) ((r .a ∷ r .c) ++ r .t) (subst (AllTight m net table) (r .is) t) .1) .0
+
+  loop-few : (x j : ℕ) (w : List ℕ) (r : Looped net x j w) → length (r .a ∷ r .c) ≤ length w
+  loop-few x j w r = omega (arith, ap length (r .is), length-append (r .u) ((r .a ∷ r .c) ++ r .t), length-append (r .a ∷ r .c) (r .t))
+
   -- a ring can be cut to a short one
   short-within : WellFormed m net → (n v a : ℕ) (w : List ℕ) → length (a ∷ w) ≤ n → Walk net v v (a ∷ w) → AllTight m net table (a ∷ w) → ShortRing
   short-within formed zero v a w few h t = absurd (omega arith)
@@ -105,8 +135,8 @@ module _ {V : Type 0} (m : Algebra V) (net : Network V) (table : Table V) where
           let p = formed a (h .0) in
           let e = h .1 in
           let r = looped {m = m} net formed v (omega arith) (omega arith) (net .start a) w (h .2) (omega arith) in
-          let q = tight-part (r .u) ((r .a ∷ r .c) ++ r .t) (subst (AllTight m net table) (r .is) (t .1)) in
-          ih (r .at) (r .a) (r .c) (omega (arith, ap length (r .is), length-append (r .u) ((r .a ∷ r .c) ++ r .t), length-append (r .a ∷ r .c) (r .t))) (r .round) (tight-part (r .a ∷ r .c) (r .t) (q .1) .0)
+          let f = loop-few v (net .start a) w r in
+          ih (r .at) (r .a) (r .c) (omega arith) (r .round) (loop-tight v (net .start a) w r (t .1))
 
   pub short-ring : WellFormed m net → Ring m net table → ShortRing
   short-ring formed r = short-within formed (length (r .last ∷ r .rest)) (r .at) (r .last) (r .rest) (omega arith) (r .round) (r .tight)
@@ -140,8 +170,7 @@ module _ {V : Type 0} (m : Algebra V) (net : Network V) (table : Table V) where
       go (a ∷ w) h many t =
           let i = starts-in formed (b .at) j a w h in
           let l = looped {m = m} net formed (b .at) (i .0) (i .1) j (a ∷ w) h (omega arith) in
-          let q = tight-part (l .u) ((l .a ∷ l .c) ++ l .t) (subst (AllTight m net table) (l .is) t) in
-          record { at = l .at; last = l .a; rest = l .c; round = l .round; tight = tight-part (l .a ∷ l .c) (l .t) (q .1) .0 }
+          record { at = l .at; last = l .a; rest = l .c; round = l .round; tight = loop-tight (b .at) j (a ∷ w) l t }
 
   pub behind-more : (n : ℕ) (a j : ℕ) → Tight m net table a → net .end a ≡ j → Behind n (net .start a) → Behind (suc n) j
   behind-more n a j t e r = record { at = r .at; way = a ∷ r .way; leads = (t .is-open, e, r .leads); many = ap suc (r .many); tight = (t, r .tight) }
@@ -178,8 +207,13 @@ module _ {V : Type 0} {m : Algebra V} (laws : Laws m) (net : Network V) (formed 
       let h = some (t .at) (t .near) in
       let w = weight-small laws net (t .at) (t .at) (t .last ∷ t .rest) formed (t .round) in
       let f = t .few in
-      record { at = t .at; last = t .last; rest = t .rest; round = t .round;
-        tight = null-tight laws net formed s k b table sound all (t .at) (h .value) (t .last ∷ t .rest) (omega arith) (h .head) (t .round) (t .none) }
+      record {
+        at = t .at;
+        last = t .last;
+        rest = t .rest;
+        round = t .round;
+        tight = null-tight laws net formed s k b table sound all (t .at) (h .value) (t .last ∷ t .rest) (omega arith) (h .head) (t .round) (t .none);
+      }
 
   pub ring-null : Ring m net table → NullCircuit m net s
   ring-null ring =

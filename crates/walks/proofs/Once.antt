@@ -26,6 +26,7 @@ module _ {V : Type 0} {m : Algebra V} (laws : Laws m) (net : Network V) (formed 
         to : (x : V) → Offered m net k s down old new j x → Offered m net k s down old′ new′ j x
         to x (inl i) = inl (subst (In x) (same j) i)
         to x (inr h) = inr (record { arc = h .arc; is-open = h .is-open; into = h .into; taken = h .taken; old = h .old; there = subst (In (h .old)) (ih (h .arc) (h .is-open) (h .taken)) (h .there); sum = h .sum })
+
         back : (x : V) → Offered m net k s down old′ new′ j x → Offered m net k s down old new j x
         back x (inl i) = inl (subst (In x) (sym (same j)) i)
         back x (inr h) = inr (record { arc = h .arc; is-open = h .is-open; into = h .into; taken = h .taken; old = h .old; there = subst (In (h .old)) (sym (ih (h .arc) (h .is-open) (h .taken))) (h .there); sum = h .sum })

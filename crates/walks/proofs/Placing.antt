@@ -8,7 +8,7 @@ use lib.ListN.{length, take, length-take}
 use Rattle.std.specs.declared.cmp.Ordering.{Ordering}
 use Rattle.std.specs.declared.cmp.Ordering.the-variants.{Less, Equal, Greater}
 use Rattle.measure.specs.Algebra.{Algebra, Laws, Before}
-use Rattle.walks.specs.Rows.{In, Above, Ascending, Covers}
+use Rattle.walks.specs.Rows.{In, BeforeAll, Ascending, Covers}
 use Rattle.walks.specs.Method.{choose, place}
 use Rattle.walks.proofs.Orders.{greater}
 use Rattle.walks.proofs.Rows.{above-in, above-trans}
@@ -20,7 +20,7 @@ in-take (suc k) (x ∷ xs) z (inl e) = inl e
 in-take (suc k) (x ∷ xs) z (inr i) = inr (in-take k xs z i)
 
 module _ {V : Type 0} (m : Algebra V) where
-  above-take : (k : ℕ) (y : V) (xs : List V) → Above m y xs → Above m y (take k xs)
+  above-take : (k : ℕ) (y : V) (xs : List V) → BeforeAll m y xs → BeforeAll m y (take k xs)
   above-take zero y xs h = tt
   above-take (suc k) y [] h = h
   above-take (suc k) y (x ∷ xs) h = (h .0, above-take k y xs (h .1))
@@ -46,6 +46,7 @@ module _ {V : Type 0} {m : Algebra V} (laws : Laws m) where
       more : (z ≡ x) ⊎ In z ys → (z ≡ x) ⊎ In z (y ∷ ys)
       more (inl e) = inl e
       more (inr j) = inr (inr j)
+
       go : (In z (place m k x ys) → (z ≡ x) ⊎ In z ys) → (o : Ordering) → In z (choose o (x ∷ take k (y ∷ ys)) (y ∷ ys) (y ∷ place m k x ys)) → (z ≡ x) ⊎ In z (y ∷ ys)
       go ih Less (inl e) = inl e
       go ih Less (inr j) = inr (in-take k (y ∷ ys) z j)
@@ -63,7 +64,7 @@ module _ {V : Type 0} {m : Algebra V} (laws : Laws m) where
       go ih Equal = h
       go ih Greater = omega arith
 
-  above-all : (y : V) (xs : List V) → ((z : V) → In z xs → Before m y z) → Above m y xs
+  above-all : (y : V) (xs : List V) → ((z : V) → In z xs → Before m y z) → BeforeAll m y xs
   above-all y [] h = tt
   above-all y (x ∷ xs) h = (h x (inl refl), above-all y xs (λ z i. h z (inr i)))
 
@@ -75,6 +76,7 @@ module _ {V : Type 0} {m : Algebra V} (laws : Laws m) where
       later : Before m y x → (z : V) → (z ≡ x) ⊎ In z ys → Before m y z
       later l z (inl e) = subst (Before m y) (sym e) l
       later l z (inr i) = above-in laws y z ys (h .0) i
+
       go : Ascending m (place m k x ys) → (o : Ordering) → m .compare x y ≡ o → Ascending m (choose o (x ∷ take k (y ∷ ys)) (y ∷ ys) (y ∷ place m k x ys))
       go ih Less e = (above-take m k x (y ∷ ys) (e, above-trans laws x y ys e (h .0)), ascending-take m k (y ∷ ys) h)
       go ih Equal e = h
@@ -98,6 +100,7 @@ module _ {V : Type 0} {m : Algebra V} (laws : Laws m) where
       first : Before m x y → Covers m (suc k) (y ∷ ys) z → Before m x z
       first l (inl e) = subst (Before m x) (sym e) l
       first l (inr h) = laws .transitive x y z l (h .0)
+
       go : (Covers m k ys z → Covers m k (place m k x ys) z) → (o : Ordering) → m .compare x y ≡ o → Covers m (suc k) (y ∷ ys) z → Covers m (suc k) (choose o (x ∷ take k (y ∷ ys)) (y ∷ ys) (y ∷ place m k x ys)) z
       go ih Less e d = inr (first e d, covers-take m k (y ∷ ys) z d)
       go ih Equal e d = d

@@ -6,16 +6,16 @@ use Prim.Native.Nat.{ℕ, suc, zero, _≤_, _<_}
 use native.Mathlib.Omega.{arith}
 use lib.ListN.{length}
 use Rattle.measure.specs.Algebra.{Algebra, Laws, Before}
-use Rattle.walks.specs.Rows.{In, Above, Ascending, Covers}
+use Rattle.walks.specs.Rows.{In, BeforeAll, Ascending, Covers}
 use Rattle.walks.proofs.Orders.{never, before-not}
 
 module _ {V : Type 0} {m : Algebra V} (laws : Laws m) where
-  pub above-in : (y z : V) (ys : List V) → Above m y ys → In z ys → Before m y z
+  pub above-in : (y z : V) (ys : List V) → BeforeAll m y ys → In z ys → Before m y z
   above-in y z [] h i = absurd i
   above-in y z (x ∷ xs) h (inl e) = subst (Before m y) (sym e) (h .0)
   above-in y z (x ∷ xs) h (inr i) = above-in y z xs (h .1) i
 
-  pub above-trans : (x y : V) (ys : List V) → Before m x y → Above m y ys → Above m x ys
+  pub above-trans : (x y : V) (ys : List V) → Before m x y → BeforeAll m y ys → BeforeAll m x ys
   above-trans x y [] l h = tt
   above-trans x y (z ∷ zs) l h = (laws .transitive x y z l (h .0), above-trans x y zs l (h .1))
 
@@ -44,10 +44,12 @@ module _ {V : Type 0} {m : Algebra V} (laws : Laws m) where
     carry (suc k) (y ∷ ys) (z ∷ zs) x up good gx all (inr c) =
         let gy = good y (inl refl) in
         let here = all y (inl refl) in
-        inr (head-before k z zs (f y) (f x) here (mono y x gy gx (c .0)),
-            carry k ys zs x (up .1) (λ v i. good v (inr i)) gx
-            (λ v i. tail-covers k z zs (f v) (head-before k z zs (f y) (f v) here (mono y v gy (good v (inr i)) (above-in y v ys (up .0) i))) (all v (inr i)))
-            (c .1))
+        inr (
+          head-before k z zs (f y) (f x) here (mono y x gy gx (c .0)),
+          carry k ys zs x (up .1) (λ v i. good v (inr i)) gx
+              (λ v i. tail-covers k z zs (f v) (head-before k z zs (f y) (f v) here (mono y v gy (good v (inr i)) (above-in y v ys (up .0) i))) (all v (inr i)))
+              (c .1),
+        )
 
   -- two rows that cover each other's values are the same
   pub unique : (k : ℕ) (xs ys : List V) → Ascending m xs → Ascending m ys → length xs ≤ k → length ys ≤ k
@@ -60,8 +62,8 @@ module _ {V : Type 0} {m : Algebra V} (laws : Laws m) where
   unique (suc k) (x ∷ xs) (y ∷ ys) ux uy sx sy cx cy =
       ap₂ _∷_ (heads (cx x (inl refl)) (cy y (inl refl)))
       (unique k xs ys (ux .1) (uy .1) (omega arith) (omega arith)
-          (λ v i. tail-covers k y ys v (head-before k y ys x v (cx x (inl refl)) (above-in x v xs (ux .0) i)) (cx v (inr i)))
-          (λ v i. tail-covers k x xs v (head-before k x xs y v (cy y (inl refl)) (above-in y v ys (uy .0) i)) (cy v (inr i))))
+      (λ v i. tail-covers k y ys v (head-before k y ys x v (cx x (inl refl)) (above-in x v xs (ux .0) i)) (cx v (inr i)))
+      (λ v i. tail-covers k x xs v (head-before k x xs y v (cy y (inl refl)) (above-in y v ys (uy .0) i)) (cy v (inr i))))
     where
       heads : Covers m (suc k) (y ∷ ys) x → Covers m (suc k) (x ∷ xs) y → x ≡ y
       heads (inl e) d = e

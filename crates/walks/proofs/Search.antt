@@ -52,6 +52,7 @@ dec-listed n zero P d = go (d [])
     out : (l : List ℕ) → length l ≤ 0 → P l → P []
     out [] few h = h
     out (a ∷ l) few h = absurd (omega arith)
+
     go : Dec (P []) → Dec (Listed n zero P)
     go (yes h) = yes (record { list = []; few = omega arith; small = tt; holds = h })
     go (no h) = no (λ r. h (out (r .list) (r .few) (r .holds)))
@@ -121,9 +122,16 @@ module _ {V : Type 0} (m : Algebra V) (net : Network V) (s : ℕ) where
   to-turn : NearNegative m net s → Listed (net .arcs) (net .nodes) Turn
   to-turn z =
       let e = z .round .1 in
-      record { list = z .last ∷ z .rest; few = z .few; small = bounded net (z .at) (z .at) (z .last ∷ z .rest) (z .round);
-        holds = (subst (λ v. Walk net v v (z .last ∷ z .rest)) (sym e) (z .round), z .less,
-            record { list = z .way; few = z .near; small = bounded net s (z .at) (z .way) (z .leads); holds = subst (λ v. Walk net s v (z .way)) (sym e) (z .leads) }) }
+      record {
+        list = z .last ∷ z .rest;
+        few = z .few;
+        small = bounded net (z .at) (z .at) (z .last ∷ z .rest) (z .round);
+        holds = (
+          subst (λ v. Walk net v v (z .last ∷ z .rest)) (sym e) (z .round),
+          z .less,
+          record { list = z .way; few = z .near; small = bounded net s (z .at) (z .way) (z .leads); holds = subst (λ v. Walk net s v (z .way)) (sym e) (z .leads) },
+        );
+      }
 
   from-turn : (c : List ℕ) → length c ≤ net .nodes → Turn c → NearNegative m net s
   from-turn [] few h = absurd h

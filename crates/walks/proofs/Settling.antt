@@ -42,6 +42,7 @@ module _ {V : Type 0} {m : Algebra V} (laws : Laws m) (net : Network V) (formed 
             let w = weight-small laws net s j (h .walk) formed (h .leads) in
             let f = h .few in
             subst (Covers m (suc k) (rows (suc q) j)) (h .is) (all-covered q e (omega arith) j (h .walk) (h .leads) (omega arith))
+
         earlier : (v : V) → Walked m net s (suc q * net .nodes) j v → Covers m (suc k) (rows (suc q) j) v
         earlier v h =
             let w = weight-small laws net s j (h .walk) formed (h .leads) in

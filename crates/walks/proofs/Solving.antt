@@ -1,30 +1,30 @@
 -- Settled rows, refusals and the number of passes.
-use mathlib.Core.Path.{_≡_, refl, sym, _∙_, ap, subst}
-use mathlib.Core.Logic.{_⊎_, inl, inr}
+use mathlib.Core.Path.{_≡_, refl, sym, _∙_, subst}
+use mathlib.Core.Logic.{inl, inr}
 use mathlib.Core.List.{List, [], _∷_}
-use Prim.Native.Nat.{ℕ, suc, zero, _+_, _*_, _^_, _≤_, _<_}
+use Prim.Native.Nat.{ℕ, suc, zero, _+_, _*_, _≤_, _<_}
 use native.Mathlib.Nat.{mul-le-mul}
 use native.Mathlib.Omega.{arith}
 use native.Mathlib.Decide.{decLe, decLt}
-use lib.ListN.{length, take, length-take}
-use Rattle.measure.specs.Algebra.{Algebra, Laws, Before, Joinable}
-use Rattle.walks.specs.Networks.{Network, Open, WellFormed}
+use lib.ListN.{take, length-take}
+use Rattle.measure.specs.Algebra.{Algebra, Laws, Joinable}
+use Rattle.walks.specs.Networks.{Network, Open}
 use Rattle.walks.specs.Walks.{Walk, walk-length, Counted}
 use Rattle.walks.specs.Circuits.{NegativeCircuit}
-use Rattle.walks.specs.Rows.{Table, In, Ascending, Covers, FirstOf}
+use Rattle.walks.specs.Rows.{Table, In, Covers, FirstOf}
 use Rattle.walks.specs.Method.{rows}
-use Rattle.walks.specs.Runs.{Run}
-use Rattle.walks.specs.Solves.{Outcome, settled, refused, last-pass, outcome}
-use Rattle.walks.specs.Theorems.{Within, LengthOf, ExactRow, Unchanged, Settles, NeverSettles, SettledExact, RefusedExactly, FewPasses, JoinsPresent, Beginning}
-use Rattle.walks.proofs.Rows.{unique, covers-in, above-in}
-use Rattle.walks.proofs.Placing.{ascending-take, covers-take, in-take}
+use Rattle.walks.specs.Solves.{last-pass}
+use Rattle.walks.specs.Runs.{Run, Unchanged, Settles, NeverSettles}
+use Rattle.walks.specs.Theorems.{Within, LengthOf, ExactRow, SettledExact, RefusedExactly, FewPasses, JoinsPresent, RowsBegin, SolvesBegin}
+use Rattle.walks.proofs.Rows.{unique}
+use Rattle.walks.proofs.Placing.{ascending-take, in-take}
 use Rattle.walks.proofs.Lengths.{weight-small, magnitude-walk}
 use Rattle.walks.proofs.Runs.{Walked, Sound}
 use Rattle.walks.proofs.Coverage.{Small, rows-ascending, rows-short, rows-sound, fixed-cover}
 use Rattle.walks.proofs.Search.{dec-negative}
 use Rattle.walks.proofs.Settling.{rest-none, comes-to-rest}
 use Rattle.walks.proofs.Method.{rows-run}
-use Rattle.walks.proofs.Ends.{settled-is, refused-is, is-settled, is-refused}
+use Rattle.walks.proofs.Ends.{settled-is, refused-is, is-refused}
 
 none-in : {V : Type 0} (row : List V) → ((x : V) → In x row → ⊥) → row ≡ []
 none-in [] h = refl
@@ -176,5 +176,8 @@ module _ {V : Type 0} {m : Algebra V} (laws : Laws m) where
       (λ v i. covers-less k l more v le (r .covers v (h .from v i)))
       (λ v i. h .covers v (r .from v (in-take k more v i)))
 
-  pub beginnings : Beginning m
-  beginnings net k l s j row more = beginning-of (LengthOf m net s j) k l row more
+  pub beginnings : RowsBegin m × SolvesBegin m
+  beginnings = (
+    λ net k l s j row more. beginning-of (LengthOf m net s j) k l row more,
+    λ net k l s p q j g g′ le e e′. beginning-of (LengthOf m net s j) k l (rows m net k s p j) (rows m net l s q j) le (exactness net k s g p e j) (exactness net l s g′ q e′ j),
+  )

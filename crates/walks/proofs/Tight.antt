@@ -46,13 +46,17 @@ module _ {V : Type 0} {m : Algebra V} (laws : Laws m) (net : Network V) (formed 
     where
       w : Walked m net s b v h
       w = reached v h head
+
       counted : Counted m net (u ++ w .walk)
       counted = omega (arith, weight-append laws net u (w .walk), weight-small laws net s v (w .walk) formed (w .leads), w .few)
+
       is : walk-length m net (u ++ w .walk) ≡ m .plus h (walk-length m net u)
       is = walk-length-append laws net u (w .walk) counted ∙ ap (λ x. m .plus x (walk-length m net u)) (w .is)
+
       not-less : (g : V) (gs : List V) → Covers m (suc k) (g ∷ gs) (walk-length m net (u ++ w .walk)) → ¬ Before m (m .plus h (walk-length m net u)) g
       not-less g gs (inl e) l = never laws g (subst (λ x. Before m x g) (sym is ∙ e) l)
       not-less g gs (inr c) l = before-not laws g (m .plus h (walk-length m net u)) (subst (Before m g) is (c .0)) l
+
       go : (row : List V) → table j ≡ row → Covers m (suc k) row (walk-length m net (u ++ w .walk)) → Low j (m .plus h (walk-length m net u))
       go [] e c = absurd c
       go (g ∷ gs) e c = record { value = g; head = record { rest = gs; is = e }; low = not-less g gs c }
@@ -79,12 +83,16 @@ module _ {V : Type 0} {m : Algebra V} (laws : Laws m) (net : Network V) (formed 
     where
       e : h ≡ m .plus h (walk-length m net (a ∷ c))
       e = head-once m net table v h (m .plus h (walk-length m net (a ∷ c))) head (tight-sum v v h (a ∷ c) spare round tight head)
+
       i : m .magnitude h ≤ b * 10 ^ 9
       i = light v h (omega arith) head
+
       n : m .magnitude (walk-length m net (a ∷ c)) ≤ weight m net (a ∷ c)
       n = magnitude-walk laws net (a ∷ c) (omega arith)
+
       z : m .magnitude (m .null) ≡ 0
       z = laws .null-magnitude
+
       go : Three m (walk-length m net (a ∷ c)) (m .null) → walk-length m net (a ∷ c) ≡ m .null
       go (before l) = never laws h (subst (λ x. Before m x h) (sym e) (subst (Before m (m .plus h (walk-length m net (a ∷ c)))) (laws .null-right h) (laws .left-monotone (walk-length m net (a ∷ c)) (m .null) h l (omega (arith, i, n, z)) (omega (arith, i, n, z)))))
       go (same q) = q
@@ -118,11 +126,13 @@ module _ {V : Type 0} {m : Algebra V} (laws : Laws m) (net : Network V) (formed 
         let wt = weight-append laws net u (a ∷ t) in
         let first = heads-low v (net .start a) h t (omega arith) back head in
         let second = heads-low (net .start a) (net .end a) (first .value) (a ∷ []) (omega arith) (o, refl, refl) (first .head) in
-        let third = heads-low (net .end a) v (second .value) u (omega arith) on (second .head) in
         go (first .value) (second .value) (first .head) (second .head) (subst (λ z. ¬ Before m (m .plus (first .value) z) (second .value)) (laws .null-left (net .arc-length a)) (second .low))
         (slack h (first .value) (second .value) u a t spare none (light v h (omega arith) head) (light (net .start a) (first .value) (omega arith) (first .head)) (light (net .end a) (second .value) (omega arith) (second .head)) (first .low)
-            (subst (λ z. ¬ Before m (m .plus (second .value) (walk-length m net u)) z) (head-once m net table v (third .value) h (third .head) head) (third .low)))
+        (home (second .value) u (heads-low (net .end a) v (second .value) u (omega arith) on (second .head))))
       where
+        home : (y : V) (u : List ℕ) → Low v (m .plus y (walk-length m net u)) → ¬ Before m (m .plus y (walk-length m net u)) h
+        home y u low = subst (λ z. ¬ Before m (m .plus y (walk-length m net u)) z) (head-once m net table v (low .value) h (low .head) head) (low .low)
+
         go : (x y : V) → FirstLength m net table (net .start a) x → FirstLength m net table (net .end a) y → ¬ Before m (m .plus x (net .arc-length a)) y → (Before m y (m .plus x (net .arc-length a)) → ⊥) → Tight m net table a
         go x y p q low clash = by (three laws y (m .plus x (net .arc-length a)))
           where
@@ -134,9 +144,10 @@ module _ {V : Type 0} {m : Algebra V} (laws : Laws m) (net : Network V) (formed 
     all-tight : (x : ℕ) (u t : List ℕ) → b * 10 ^ 9 + weight m net (u ++ t) ≤ 2 ^ 62 → walk-length m net (u ++ t) ≡ m .null → Walk net x v u → Walk net v x t → AllTight m net table t
     all-tight x u [] spare none on back = tt
     all-tight x u (a ∷ t) spare none on back =
-        let e : (u ++ (a ∷ [])) ++ t ≡ u ++ (a ∷ t) = append-assoc u (a ∷ []) t in
-        (tight-at u a t spare none (back .0) (subst (λ z. Walk net z v u) (sym (back .1)) on) (back .2),
-            all-tight (net .start a) (u ++ (a ∷ [])) t (rw e spare) (rw e none) (walk-append net (net .start a) x v u (a ∷ []) on (back .0, back .1, refl)) (back .2))
+        let e : (u ++ (a ∷ [])) ++ t ≡ u ++ (a ∷ t) = append-assoc u (a ∷ []) t in (
+          tight-at u a t spare none (back .0) (subst (λ z. Walk net z v u) (sym (back .1)) on) (back .2),
+          all-tight (net .start a) (u ++ (a ∷ [])) t (rw e spare) (rw e none) (walk-append net (net .start a) x v u (a ∷ []) on (back .0, back .1, refl)) (back .2),
+        )
 
   -- a null circuit is a circuit of tight arcs
   pub null-tight : (v : ℕ) (h : V) (c : List ℕ) → Spare c → FirstLength m net table v h → Walk net v v c → walk-length m net c ≡ m .null → AllTight m net table c

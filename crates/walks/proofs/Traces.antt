@@ -43,11 +43,12 @@ module _ {V : Type 0} {m : Algebra V} (laws : Laws m) where
     carry-rank (suc k) (y ∷ ys) [] x up good gx all c = all y (inl refl)
     carry-rank (suc k) (y ∷ ys) (z ∷ zs) x up good gx all c =
         let gy = good y (inl refl) in
-        let here = all y (inl refl) in
-        (head-before laws k z zs (f y) (f x) here (mono y x gy gx (c .0)),
-            carry-rank k ys zs x (up .1) (λ v i. good v (inr i)) gx
-            (λ v i. tail-covers laws k z zs (f v) (head-before laws k z zs (f y) (f v) here (mono y v gy (good v (inr i)) (above-in laws y v ys (up .0) i))) (all v (inr i)))
-            (c .1))
+        let here = all y (inl refl) in (
+          head-before laws k z zs (f y) (f x) here (mono y x gy gx (c .0)),
+          carry-rank k ys zs x (up .1) (λ v i. good v (inr i)) gx
+              (λ v i. tail-covers laws k z zs (f v) (head-before laws k z zs (f y) (f v) here (mono y v gy (good v (inr i)) (above-in laws y v ys (up .0) i))) (all v (inr i)))
+              (c .1),
+        )
 
   -- equal sums have equal parts
   pub cancel : (a b c : V) → Joinable m a c → Joinable m b c → m .plus a c ≡ m .plus b c → a ≡ b
@@ -79,15 +80,16 @@ module _ {V : Type 0} {m : Algebra V} (laws : Laws m) (net : Network V) (formed 
           let q = weight-small laws net s (net .start a) (v .walk) formed (v .leads) in
           let f = v .few in
           subst (λ z. Covers m k (table (net .end a)) (m .plus z (net .arc-length a))) (v .is) (all (net .end a) (a ∷ v .walk) (o, refl, v .leads) (omega arith))
+
       go : In (walk-length m net w) (table (net .start a)) ⊎ Rank m k (table (net .start a)) (walk-length m net w) → In (walk-length m net w) (table (net .start a))
       go (inl q) = q
       go (inr r) =
           absurd (rank-not-in laws k (table (net .end a)) (walk-length m net (a ∷ w)) (short (net .end a))
-              (carry-rank laws (λ v. Joinable m v (net .arc-length a)) (λ v. m .plus v (net .arc-length a)) (λ x y p q l. laws .right-monotone x y (net .arc-length a) l p q)
-                  k (table (net .start a)) (table (net .end a)) (walk-length m net w) (up (net .start a))
-                  (λ y j. good a o y (sound (net .start a) y j)) (omega (arith, magnitude-walk laws net w (omega arith)))
-                  (λ y j. carried y (sound (net .start a) y j)) r)
-              i)
+          (carry-rank laws (λ v. Joinable m v (net .arc-length a)) (λ v. m .plus v (net .arc-length a)) (λ x y p q l. laws .right-monotone x y (net .arc-length a) l p q)
+          k (table (net .start a)) (table (net .end a)) (walk-length m net w) (up (net .start a))
+          (λ y j. good a o y (sound (net .start a) y j)) (omega (arith, magnitude-walk laws net w (omega arith)))
+          (λ y j. carried y (sound (net .start a) y j)) r)
+          i)
 
   -- a walk whose length is in its row has fewer than n × k arcs, unless a null circuit is reached
   pub few-arcs : ¬ NegativeCircuit m net s → ¬ NullCircuit m net s → (j : ℕ) (w : List ℕ) → Walk net s j w → Counted m net w → In (walk-length m net w) (table j) → length w < net .nodes * k
@@ -98,9 +100,11 @@ module _ {V : Type 0} {m : Algebra V} (laws : Laws m) (net : Network V) (formed 
         where
           within : Counted m net (r .then ++ r .first)
           within = subst (Counted m net) (r .is) counted
+
           end : Rank m k (table j) (walk-length m net (r .then ++ r .first)) ⊎ Shorter m net s v (r .first) → ⊥
           end (inl q) = rank-not-in laws k (table j) (walk-length m net (r .then ++ r .first)) (short j) q (subst (λ l. In (walk-length m net l) (table j)) (r .is) i)
           end (inr q) = no-null (q .zero)
+
       go : Dec (length w < net .nodes * k) → length w < net .nodes * k
       go (yes l) = l
       go (no l) =

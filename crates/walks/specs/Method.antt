@@ -1,7 +1,7 @@
 -- The sweeps over a network, as they are computed.
 use mathlib.Core.Bool.{Bool, true, false, not, cond, _&&_}
 use mathlib.Core.List.{List, [], _∷_}
-use Prim.Native.Nat.{ℕ, suc, zero, _+_, _*_}
+use Prim.Native.Nat.{ℕ, suc, zero}
 use lib.Dec.{ltb, eqb}
 use lib.ListN.{take}
 use Rattle.std.specs.declared.cmp.Ordering.{Ordering}
@@ -22,6 +22,7 @@ place m zero x row = []
 place m (suc k) x [] = x ∷ []
 place m (suc k) x (y ∷ ys) = choose (m .compare x y) (x ∷ take k (y ∷ ys)) (y ∷ ys) (y ∷ place m k x ys)
 
+-- the odd numbers are those of the passes down
 abbrev pub odd : ℕ → Bool
 odd zero = false
 odd (suc n) = not (odd n)
@@ -31,6 +32,7 @@ abbrev pub takes : Bool → ℕ → ℕ → Bool
 takes true i j = ltb j i
 takes false i j = ltb i j
 
+-- the pass takes arc a when it works on node j
 abbrev pub uses : {V : Type 0} → Network V → Bool → ℕ → ℕ → Bool
 uses net down j a = net .is-open a && (eqb (net .end a) j && takes down (net .start a) j)
 
@@ -44,6 +46,7 @@ module _ {V : Type 0} (m : Algebra V) (net : Network V) (k s : ℕ) where
   place-all [] l row = row
   place-all (x ∷ xs) l row = place-all xs l (place m k (m .plus x l) row)
 
+  -- over an arc that is taken, or not
   abbrev pub offer : Bool → List V → V → List V → List V
   offer true xs l row = place-all xs l row
   offer false xs l row = row
@@ -67,6 +70,7 @@ module _ {V : Type 0} (m : Algebra V) (net : Network V) (k s : ℕ) where
   sweep-up zero t = t
   sweep-up (suc n) t = work false (sweep-up n t) (suc n)
 
+  -- a whole pass, down or up
   abbrev pub pass : Bool → Table V → Table V
   pass true t = sweep-down (net .nodes) t
   pass false t = sweep-up (net .nodes) t

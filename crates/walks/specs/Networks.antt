@@ -30,5 +30,6 @@ module _ {V : Type 0} (m : Algebra V) (net : Network V) where
     pub apart : ¬ (net .start a ≡ net .end a)
     pub small : m .magnitude (net .arc-length a) ≤ 10 ^ 9
 
+  -- every open arc is proper
   abbrev pub WellFormed : Type 0
   WellFormed = (a : ℕ) → Open net a → ProperArc a

@@ -28,6 +28,7 @@ module _ {V : Type 0} (m : Algebra V) (net : Network V) (t : Table V) where
     pub end : FirstLength (net .end a) here
     pub sum : m .plus there (net .arc-length a) ≡ here
 
+  -- every arc is tight
   abbrev pub AllTight : List ℕ → Type 0
   AllTight [] = Unit {0}
   AllTight (a ∷ w) = Tight a × AllTight w
@@ -48,6 +49,7 @@ module _ {V : Type 0} (m : Algebra V) (net : Network V) (t : Table V) where
     pub from : mark (net .start arc) ≡ false
 
   -- The marking: in each round a node is marked if all tight arcs into it come from nodes that were marked in the round before.
+  -- (A node that is not reached has no tight arc into it, so it is marked in round 1.)
 
   -- the first of xs joined with l is the first of ys
   abbrev pub carries : List V → V → List V → Bool
@@ -55,9 +57,11 @@ module _ {V : Type 0} (m : Algebra V) (net : Network V) (t : Table V) where
   carries (x ∷ xs) l [] = false
   carries (x ∷ xs) l (y ∷ ys) = choose (m .compare (m .plus x l) y) false true false
 
+  -- arc a is tight
   abbrev pub is-tight : ℕ → Bool
   is-tight a = net .is-open a && carries (t (net .start a)) (net .arc-length a) (t (net .end a))
 
+  -- the second, if the first
   abbrev pub implies : Bool → Bool → Bool
   implies true b = b
   implies false b = true
@@ -72,6 +76,7 @@ module _ {V : Type 0} (m : Algebra V) (net : Network V) (t : Table V) where
   marked zero j = false
   marked (suc r) j = cleared (marked r) j (net .arcs)
 
+  -- the nodes 1 to n are marked after N rounds
   abbrev pub all-marked : ℕ → Bool
   all-marked zero = true
   all-marked (suc j) = marked (net .nodes) (suc j) && all-marked j

@@ -10,19 +10,21 @@ use Rattle.measure.specs.Algebra.{Algebra, Before}
 abbrev pub Table : Type 0 → Type 0
 Table V = ℕ → List V
 
+-- x is one of the values
 abbrev pub In : {V : Type 0} → V → List V → Type 0
 In x [] = ⊥
 In x (y ∷ ys) = (x ≡ y) ⊎ In x ys
 
 module _ {V : Type 0} (m : Algebra V) where
   -- y is before every value of the row
-  abbrev pub Above : V → List V → Type 0
-  Above y [] = Unit {0}
-  Above y (z ∷ zs) = Before m y z × Above y zs
+  abbrev pub BeforeAll : V → List V → Type 0
+  BeforeAll y [] = Unit {0}
+  BeforeAll y (z ∷ zs) = Before m y z × BeforeAll y zs
 
+  -- each value is before all that come later
   abbrev pub Ascending : List V → Type 0
   Ascending [] = Unit {0}
-  Ascending (y ∷ ys) = Above y ys × Ascending ys
+  Ascending (y ∷ ys) = BeforeAll y ys × Ascending ys
 
   -- x is among the first K of the row, or the row has K values and they are before x
   abbrev pub Covers : ℕ → List V → V → Type 0

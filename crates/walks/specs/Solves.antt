@@ -17,6 +17,7 @@ abbrev pub ends : Bool → Outcome → Outcome → Outcome
 ends true now later = now
 ends false now later = later
 
+-- the two rows are the same
 abbrev pub same-row : {V : Type 0} → Algebra V → List V → List V → Bool
 same-row m [] [] = true
 same-row m [] (y ∷ ys) = false

@@ -1,7 +1,7 @@
 -- What is true of every solve within the limits.
 use mathlib.Core.Path.{_≡_}
 use mathlib.Core.List.{List}
-use Prim.Native.Nat.{ℕ, suc, zero, _+_, _*_, _≤_, _<_}
+use Prim.Native.Nat.{ℕ, _+_, _*_, _≤_}
 use lib.ListN.{take}
 use Rattle.measure.specs.Algebra.{Algebra, Joinable}
 use Rattle.walks.specs.Networks.{Network, Open, WellFormed}
@@ -9,7 +9,7 @@ use Rattle.walks.specs.Walks.{Walk, walk-length, Counted}
 use Rattle.walks.specs.Circuits.{NegativeCircuit}
 use Rattle.walks.specs.Rows.{Table, In, FirstOf}
 use Rattle.walks.specs.Method.{rows}
-use Rattle.walks.specs.Runs.{Run}
+use Rattle.walks.specs.Runs.{Run, Settles, NeverSettles}
 use Rattle.walks.specs.Solves.{settled, refused, last-pass, outcome}
 
 module _ {V : Type 0} (m : Algebra V) (net : Network V) where
@@ -33,23 +33,6 @@ module _ {V : Type 0} (m : Algebra V) (net : Network V) where
   abbrev pub ExactRow : ℕ → ℕ → ℕ → List V → Type 0
   ExactRow k s j row = FirstOf m k (LengthOf s j) row
 
--- pass p changes no row
-abbrev pub Unchanged : {V : Type 0} → Network V → (ℕ → Table V) → ℕ → Type 0
-Unchanged net rows zero = ⊥
-Unchanged net rows (suc p) = (j : ℕ) → 1 ≤ j → j ≤ net .nodes → rows (suc p) j ≡ rows p j
-
-module _ {V : Type 0} (m : Algebra V) (net : Network V) (k s : ℕ) (rows : ℕ → Table V) where
-  -- pass p ends the solve
-  pub record Settles (p : ℕ) : Type 0 where
-    pub second : 2 ≤ p
-    pub in-time : p ≤ last-pass m net k s
-    pub unchanged : Unchanged net rows p
-    pub first : (q : ℕ) → 2 ≤ q → q < p → ¬ Unchanged net rows q
-
-  -- no pass ends it
-  abbrev pub NeverSettles : Type 0
-  NeverSettles = (p : ℕ) → 2 ≤ p → p ≤ last-pass m net k s → ¬ Unchanged net rows p
-
 -- the rows as computed are a run in plain words, there is only one run, and the outcome is what the passes of the run say
 pub record InWords {V : Type 0} (m : Algebra V) (net : Network V) (k s : ℕ) : Type 0 where
   pub is-run : Run m net k s (rows m net k s)
@@ -58,6 +41,7 @@ pub record InWords {V : Type 0} (m : Algebra V) (net : Network V) (k s : ℕ) : 
   pub refuses : (run : ℕ → Table V) → Run m net k s run → (outcome m net k s ≡ refused → NeverSettles m net k s run) × (NeverSettles m net k s run → outcome m net k s ≡ refused)
 
 module _ {V : Type 0} (m : Algebra V) where
+  -- so it is for every network
   abbrev pub MethodInWords : Type 0
   MethodInWords = (net : Network V) (k s : ℕ) → WellFormed m net → 1 ≤ k → InWords m net k s
 
@@ -73,10 +57,14 @@ module _ {V : Type 0} (m : Algebra V) where
   abbrev pub FewPasses : Type 0
   FewPasses = (net : Network V) (k s : ℕ) → Within m net k s → (p : ℕ) → outcome m net k s ≡ settled p → (2 ≤ p) × (p ≤ net .nodes * k + 1) × (p ≤ 2 * (net .nodes * k))
 
-  -- whatever stands in a row after any pass of a solve can be joined with every open arc from there
+  -- No join is absent: whatever stands in a row after any pass of a solve can be joined with the length of every open arc
+  -- from there. (When a pass works on a node it has finished the rows that it joins from.)
   abbrev pub JoinsPresent : Type 0
   JoinsPresent = (net : Network V) (k s : ℕ) → Within m net k s → (p a : ℕ) (x : V) → p ≤ last-pass m net k s → Open net a → In x (rows m net k s p (net .start a)) → Joinable m x (net .arc-length a)
 
-  -- the row of a smaller K is the beginning of the row of a larger K
-  abbrev pub Beginning : Type 0
-  Beginning = (net : Network V) (k l s j : ℕ) (row more : List V) → k ≤ l → ExactRow m net k s j row → ExactRow m net l s j more → row ≡ take k more
+  -- the row of a smaller K is the beginning of the row of a larger K: so for any two such rows, and so for two solves
+  abbrev pub RowsBegin : Type 0
+  RowsBegin = (net : Network V) (k l s j : ℕ) (row more : List V) → k ≤ l → ExactRow m net k s j row → ExactRow m net l s j more → row ≡ take k more
+
+  abbrev pub SolvesBegin : Type 0
+  SolvesBegin = (net : Network V) (k l s p q j : ℕ) → Within m net k s → Within m net l s → k ≤ l → outcome m net k s ≡ settled p → outcome m net l s ≡ settled q → rows m net k s p j ≡ take k (rows m net l s q j)

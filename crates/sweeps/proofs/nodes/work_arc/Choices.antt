@@ -1,0 +1,5 @@
+use Rattle.sweeps.specs.Nodes.{ArcWorked}
+use Rattle.sweeps.proofs.nodes.work_arc.Given as given
+
+abbrev pub Inv-loop-p : given.InvT-loop-p
+Inv-loop-p g l = ArcWorked (g .M·Measure .algebra) (l .k) (l .from) (l .p) (l .to) (l .entry .total) (l .entry .changed) (l .x) (l .entry .values) (l .values) (l .total) (l .changed)
