@@ -1,0 +1,3 @@
+pub mod Ranking
+pub mod Reading
+pub mod Total
