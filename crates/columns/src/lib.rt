@@ -12,6 +12,8 @@ use measure::SumMeasure;
 use measure::Then;
 use measure::ThenMeasure;
 
+#[cfg(test)]
+mod tests;
 mod text;
 
 pub use text::column_text;

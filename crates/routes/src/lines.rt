@@ -15,14 +15,24 @@ pub fn route_line(heap: Global, number: usize, length: &str) -> Result<String, A
 }
 
 // The line of a place in the ranking, as `1. route 2: 900/4320`.
-pub fn place_line(heap: Global, place: usize, number: usize, length: &str) -> Result<String, AllocError>
+pub fn place_line(
+    heap: Global,
+    place: usize,
+    number: usize,
+    length: &str,
+) -> Result<String, AllocError>
     ensures { λ r. ⌜ made r (λ t. string-bytes t ≡ decimal place ++ (codes ". route " ++ (decimal number ++ (codes ": " ++ now (length .entry))))) ⌝ }
 {
     format!(heap, "{place}. route {number}: {length}")
 }
 
 // The same for a route as long as the one before it, which shares its place.
-pub fn equal_line(heap: Global, place: usize, number: usize, length: &str) -> Result<String, AllocError>
+pub fn equal_line(
+    heap: Global,
+    place: usize,
+    number: usize,
+    length: &str,
+) -> Result<String, AllocError>
     ensures { λ r. ⌜ made r (λ t. string-bytes t ≡ decimal place ++ (codes ". route " ++ (decimal number ++ (codes ": " ++ (now (length .entry) ++ codes " (equal)"))))) ⌝ }
 {
     format!(heap, "{place}. route {number}: {length} (equal)")
