@@ -1,0 +1,14 @@
+pub mod Networks
+pub mod Walks
+pub mod Circuits
+pub mod Rows
+pub mod Method
+pub mod Solves
+pub mod Runs
+pub mod Theorems
+pub mod Nulls
+pub mod Paths
+pub mod Tracing
+pub mod Ways
+pub mod Labels
+pub mod Cases
