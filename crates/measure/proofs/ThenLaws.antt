@@ -10,17 +10,17 @@ use Rattle.measure.specs.declared.then.Then.{Then}
 use Rattle.measure.specs.Algebra.{Algebra, Laws, Before, Joinable}
 use Rattle.measure.specs.Piles.{chained, then-algebra}
 
-chained-equal : (o p : Ordering) → chained o p ≡ Equal → (o ≡ Equal) × (p ≡ Equal)
+pub chained-equal : (o p : Ordering) → chained o p ≡ Equal → (o ≡ Equal) × (p ≡ Equal)
 chained-equal Less p h = absurd (let z : _≡_ {A = ℕ} 0 1 = cc in omega arith)
 chained-equal Equal p h = (refl, h)
 chained-equal Greater p h = absurd (let z : _≡_ {A = ℕ} 0 1 = cc in omega arith)
 
-chained-less : (o p : Ordering) → chained o p ≡ Less → (o ≡ Less) ⊎ ((o ≡ Equal) × (p ≡ Less))
+pub chained-less : (o p : Ordering) → chained o p ≡ Less → (o ≡ Less) ⊎ ((o ≡ Equal) × (p ≡ Less))
 chained-less Less p h = inl refl
 chained-less Equal p h = inr (refl, h)
 chained-less Greater p h = absurd (let z : _≡_ {A = ℕ} 0 1 = cc in omega arith)
 
-chained-reversed : (o p : Ordering) → chained (reversed o) (reversed p) ≡ reversed (chained o p)
+pub chained-reversed : (o p : Ordering) → chained (reversed o) (reversed p) ≡ reversed (chained o p)
 chained-reversed Less p = refl
 chained-reversed Equal p = refl
 chained-reversed Greater p = refl

@@ -44,7 +44,8 @@ pub impl Measure for Sum as SumMeasure {
     }
 
     fn join(&self, other: &Sum) -> Option<Sum> {
-        if self.magnitude() + other.magnitude() <= LARGEST {
+        let present = self.magnitude() + other.magnitude() <= LARGEST;
+        if present {
             Some(Sum::added(*self, *other))
         } else {
             None

@@ -1,0 +1,3 @@
+pub mod Inverses
+pub mod Places
+pub mod Writing

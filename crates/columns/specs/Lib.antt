@@ -1,0 +1,3 @@
+pub mod Columnar
+pub mod Tables
+pub mod Text

@@ -1,0 +1,4 @@
+pub mod Kinds
+pub mod Ranking
+pub mod Reading
+pub mod Total
