@@ -2,3 +2,4 @@ pub mod Clearing
 pub mod Holding
 pub mod Ordered
 pub mod Reading
+pub mod Answering

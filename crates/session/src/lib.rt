@@ -1,6 +1,7 @@
 // Sessions: a draft takes arcs, and a settled session answers lengths. The tables are the caller's and are lent to each call.
 mod draft;
 mod settled;
+mod solving;
 mod stages;
 
 pub use stages::Draft;
