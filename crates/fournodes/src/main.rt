@@ -31,11 +31,16 @@ fn print_rows(rt: &LibcRuntime, settled: &Settled, nodes: usize, k: usize, value
         let node = i + 1;
         let mut line = format!(rt.alloc(), "node {node} lengths")?;
         for place in 0..k {
-            if let Ok(Some(length)) = settled.length(values, counts, node, place + 1) {
-                line.push(' ')?;
-                line.push_str(column_text(rt.alloc(), &length)?.as_str())?;
-            } else if place == 0 {
-                line.push_str(" none")?;
+            let Ok(answer) = settled.length(values, counts, node, place + 1) else {
+                return Err("no such place".into());
+            };
+            match answer {
+                Some(length) => {
+                    line.push(' ')?;
+                    line.push_str(column_text(rt.alloc(), &length)?.as_str())?;
+                }
+                None if place == 0 => line.push_str(" none")?,
+                None => {}
             }
         }
         rt.println(line)?;
