@@ -13,9 +13,8 @@ use Rattle.std.proofs.shelf.Tests.{cases-eq, cases-lt}
 use Rattle.measure.specs.Algebra.{Algebra, Laws}
 use Rattle.walks.specs.Networks.{Network, WellFormed}
 use Rattle.walks.specs.Method.{odd, put, pass, rows}
-use Rattle.walks.specs.Runs.{Run}
+use Rattle.walks.specs.Runs.{Run, Unchanged}
 use Rattle.walks.specs.Solves.{settled, refused, outcome}
-use Rattle.walks.specs.Theorems.{Unchanged}
 use Rattle.walks.proofs.Method.{put-here, put-there, rows-run}
 use Rattle.walks.proofs.Ends.{is-settled, is-refused}
 use Rattle.sweeps.specs.Tables.{start-of, cells, count-of, Cleared}
