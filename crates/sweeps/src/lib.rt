@@ -10,8 +10,6 @@ mod rows;
 mod settling;
 mod solving;
 mod tables;
-#[cfg(test)]
-mod tests;
 
 pub use order::Order;
 pub use refusal::Refusal;

@@ -1,6 +1,10 @@
-use super::*;
 use measure::Sum;
 use measure::SumMeasure;
+use sweeps::Arc;
+use sweeps::Order;
+use sweeps::Refusal;
+use sweeps::Solved;
+use sweeps::solve;
 use std::test::*;
 
 // An open arc.
