@@ -11,6 +11,9 @@ use super::passes::pass;
 use super::tables::clear;
 use measure::Measure;
 
+// The first pass that may end a solve.
+const EARLIEST: usize = 2;
+
 // Fills the rows, and says after how many passes they were at rest; or clears them, and says none.
 pub fn settle<M: Measure>(
     nodes: usize,
@@ -36,7 +39,7 @@ pub fn settle<M: Measure>(
         let changed = pass(down, nodes, order.k, arcs, lengths, first, values, counts);
         down = !down;
         done += 1;
-        if done >= 2 && !changed {
+        if done >= EARLIEST && !changed {
             return Some(done);
         }
     }

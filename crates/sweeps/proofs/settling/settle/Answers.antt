@@ -27,7 +27,7 @@ pub loop-done-again : need.loop-done-again
 loop-done-again g c = λ b.
     stands-more (g .M·Measure .algebra) (network (g .M·Measure .algebra) (c .args .nodes) (c .args .arcs .now) (c .args .lengths .now)) (c .args .order .k) (c .args .order .source) b (g .M·Measure·met .lawful) (formed-of _ _ (c .pre .known .ordered))
     (c .loop-done .values) _ (c .loop-done .counts) _ (c .loop-done .done) (c .loop-done .down) _ (c .loop-done-test .taken) (c .loop-done .inv b) (c .pass-changed .ensures)
-    _ _ refl refl (elim (c .else-done-ge2 .either) [ inl p ↦ inr (p .1) | inr l ↦ inl l ])
+    _ _ refl refl (elim (c .else-done-ge-EARLIEST .either) [ inl p ↦ inr (p .1) | inr l ↦ inl l ])
 
 pub returns : need.returns
 returns g c = (
