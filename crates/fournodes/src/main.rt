@@ -18,7 +18,12 @@ const NO_ARC: Arc = Arc {
 };
 
 // Puts the arcs, each a start, an end and a length, into a draft, until one is refused.
-fn load(draft: &mut Draft, arcs: &mut [Arc], lengths: &mut [Sum], list: &[(usize, usize, i64)]) -> Result<(), Refusal> {
+fn load(
+    draft: &mut Draft,
+    arcs: &mut [Arc],
+    lengths: &mut [Sum],
+    list: &[(usize, usize, i64)],
+) -> Result<(), Refusal> {
     for (start, end, length) in list.iter().copied() {
         draft.put(arcs, lengths, start, end, Sum::new(length))?;
     }
@@ -26,7 +31,14 @@ fn load(draft: &mut Draft, arcs: &mut [Arc], lengths: &mut [Sum], list: &[(usize
 }
 
 // Prints the row of each node.
-fn print_rows(rt: &LibcRuntime, settled: &Settled, nodes: usize, k: usize, values: &[Sum], counts: &[usize]) -> Result<(), AnyError> {
+fn print_rows(
+    rt: &LibcRuntime,
+    settled: &Settled,
+    nodes: usize,
+    k: usize,
+    values: &[Sum],
+    counts: &[usize],
+) -> Result<(), AnyError> {
     for i in 0..nodes {
         let node = i + 1;
         let mut line = format!(rt.alloc(), "node {node} lengths")?;
@@ -49,7 +61,14 @@ fn print_rows(rt: &LibcRuntime, settled: &Settled, nodes: usize, k: usize, value
 }
 
 // Solves the draft, prints what came of it and gives the draft back.
-fn show(rt: &LibcRuntime, draft: Draft, nodes: usize, order: Order, arcs: &[Arc], lengths: &[Sum]) -> Result<Draft, AnyError> {
+fn show(
+    rt: &LibcRuntime,
+    draft: Draft,
+    nodes: usize,
+    order: Order,
+    arcs: &[Arc],
+    lengths: &[Sum],
+) -> Result<Draft, AnyError> {
     let mut values = [Sum::null(); 20];
     let mut counts = [0; 5];
     let k = order.k;
@@ -75,7 +94,14 @@ fn show(rt: &LibcRuntime, draft: Draft, nodes: usize, order: Order, arcs: &[Arc]
 fn four_nodes(rt: &LibcRuntime) -> Result<(), AnyError> {
     let mut arcs = [NO_ARC; 6];
     let mut lengths = [Sum::null(); 6];
-    let list = [(3, 2, 1), (1, 2, 4), (1, 3, 2), (2, 3, 1), (2, 4, 5), (3, 4, 7)];
+    let list = [
+        (3, 2, 1),
+        (1, 2, 4),
+        (1, 3, 2),
+        (2, 3, 1),
+        (2, 4, 5),
+        (3, 4, 7),
+    ];
     let Ok(mut draft) = Draft::new(4) else {
         return Err("no draft".into());
     };
@@ -99,7 +125,12 @@ fn rebate(rt: &LibcRuntime) -> Result<(), AnyError> {
     let Ok(order) = Order::new(2, 1) else {
         return Err("no order".into());
     };
-    if load(&mut draft, &mut arcs, &mut lengths, &[(2, 1, -4), (1, 2, 3)]).is_err() {
+    if load(
+        &mut draft,
+        &mut arcs,
+        &mut lengths,
+        &[(2, 1, -4), (1, 2, 3)],
+    ).is_err() {
         return Err("an arc was refused".into());
     }
     let draft = show(rt, draft, 2, order, &arcs, &lengths)?;

@@ -88,9 +88,9 @@ module _ {V : Type 0} (m : Algebra V) (d : Draft) (o : Order) (values : List V) 
         let lengths-are = ap (λ i. take i lengths) u ∙ holds .in-lengths in
         let n = holds .nodes in
         let moved : Solves m (net .nodes) (o .k) (o .source) (net .arcs) (net .lengths) values counts r values′ counts′ =
-            subst (λ i. Solves m i (o .k) (o .source) (net .arcs) (net .lengths) values counts r values′ counts′) n
-            (subst (λ t. Solves m (d .nodes) (o .k) (o .source) t (net .lengths) values counts r values′ counts′) arcs-are
-            (subst (λ t. Solves m (d .nodes) (o .k) (o .source) (take (most - 0) arcs) t values counts r values′ counts′) lengths-are h)) in
+        subst (λ i. Solves m i (o .k) (o .source) (net .arcs) (net .lengths) values counts r values′ counts′) n
+        (subst (λ t. Solves m (d .nodes) (o .k) (o .source) t (net .lengths) values counts r values′ counts′) arcs-are
+        (subst (λ t. Solves m (d .nodes) (o .k) (o .source) (take (most - 0) arcs) t values counts r values′ counts′) lengths-are h)) in
         let low = d .ok .0 in
         let high = d .ok .1 in
         subst (λ v. SolveMeant m net (o .k) (o .source) v a arcs lengths values′ counts′) (same-verdict (net .nodes) (o .k) (o .source) (length values) (length counts) (omega arith) (omega arith))

@@ -26,7 +26,14 @@ impl Draft {
         ensures meant { λ r. ⌜ ((net : Net M) → DraftHolds (M·Measure .algebra) net self (now (arcs .entry)) (now (lengths .entry)) → SolveMeant (M·Measure .algebra) net (order .k) (order .source) (begin-verdict (net .nodes) (order .k) (order .source) (length (now (values .entry))) (length (now (counts .entry)))) r (now (arcs .entry)) (now (lengths .entry)) (now (values .exit)) (now (counts .exit))) ⌝ }
     {
         let most = self.count.min(arcs.len()).min(lengths.len());
-        match solve(self.nodes, order, &arcs[0..most], &lengths[0..most], values, counts) {
+        match solve(
+            self.nodes,
+            order,
+            &arcs[0..most],
+            &lengths[0..most],
+            values,
+            counts,
+        ) {
             Ok(found) => {
                 let settled = Settled {
                     draft: self,
