@@ -1,15 +1,19 @@
 use measure::Sum;
 use measure::SumMeasure;
+use std::test::*;
 use sweeps::Arc;
 use sweeps::Order;
 use sweeps::Refusal;
 use sweeps::Solved;
 use sweeps::solve;
-use std::test::*;
 
 // An open arc.
 fn arc(start: u32, end: u32) -> Arc {
-    Arc { start, end, open: true }
+    Arc {
+        start,
+        end,
+        open: true,
+    }
 }
 
 // The number of passes, or 0 for a refused solve.
@@ -38,11 +42,32 @@ fn refused(answer: &Result<Solved, Refusal>) -> u8 {
 
 #[test]
 fn diamond() -> Result<(), Fail> {
-    let arcs = [arc(3, 2), arc(1, 2), arc(1, 3), arc(2, 3), arc(2, 4), arc(3, 4)];
-    let lengths = [Sum::new(1), Sum::new(4), Sum::new(2), Sum::new(1), Sum::new(5), Sum::new(7)];
+    let arcs = [
+        arc(3, 2),
+        arc(1, 2),
+        arc(1, 3),
+        arc(2, 3),
+        arc(2, 4),
+        arc(3, 4),
+    ];
+    let lengths = [
+        Sum::new(1),
+        Sum::new(4),
+        Sum::new(2),
+        Sum::new(1),
+        Sum::new(5),
+        Sum::new(7),
+    ];
     let mut values = [Sum::new(-6); 13];
     let mut counts = [9usize; 5];
-    let answer = solve(4, Order { k: 3, source: 1 }, &arcs, &lengths, &mut values, &mut counts);
+    let answer = solve(
+        4,
+        Order { k: 3, source: 1 },
+        &arcs,
+        &lengths,
+        &mut values,
+        &mut counts,
+    );
     check_eq(passes(&answer), 7)?;
     check(!null_told(&answer))?;
     check(counts == [1, 3, 3, 3, 9])?;
@@ -60,7 +85,14 @@ fn diamond() -> Result<(), Fail> {
 fn there_and_back(back: i64, values: &mut [Sum], counts: &mut [usize]) -> Result<Solved, Refusal> {
     let arcs = [arc(2, 1), arc(1, 2)];
     let lengths = [Sum::new(back), Sum::new(3)];
-    solve(2, Order { k: 2, source: 1 }, &arcs, &lengths, values, counts)
+    solve(
+        2,
+        Order { k: 2, source: 1 },
+        &arcs,
+        &lengths,
+        values,
+        counts,
+    )
 }
 
 #[test]
@@ -88,10 +120,48 @@ fn circuits() -> Result<(), Fail> {
 fn refusals() -> Result<(), Fail> {
     let mut values = [Sum::new(7); 4];
     let mut counts = [7usize; 2];
-    check_eq(refused(&solve(0, Order { k: 2, source: 1 }, &[], &[], &mut values, &mut counts)), 1)?;
-    check_eq(refused(&solve(2, Order { k: 2, source: 3 }, &[], &[], &mut values, &mut counts)), 9)?;
-    check_eq(refused(&solve(2, Order { k: 3, source: 1 }, &[], &[], &mut values, &mut counts)), 10)?;
+    check_eq(
+        refused(
+            &solve(
+                0,
+                Order { k: 2, source: 1 },
+                &[],
+                &[],
+                &mut values,
+                &mut counts,
+            ),
+        ),
+        1,
+    )?;
+    check_eq(
+        refused(
+            &solve(
+                2,
+                Order { k: 2, source: 3 },
+                &[],
+                &[],
+                &mut values,
+                &mut counts,
+            ),
+        ),
+        9,
+    )?;
+    check_eq(
+        refused(
+            &solve(
+                2,
+                Order { k: 3, source: 1 },
+                &[],
+                &[],
+                &mut values,
+                &mut counts,
+            ),
+        ),
+        10,
+    )?;
     check(counts == [7, 7])?;
     check_eq(values[3].value, 7)?;
-    check(Order::new(20, 1000).is_ok() && Order::new(21, 0).is_err() && Order::new(1, 1001).is_err())
+    check(
+        Order::new(20, 1000).is_ok() && Order::new(21, 0).is_err() && Order::new(1, 1001).is_err(),
+    )
 }
