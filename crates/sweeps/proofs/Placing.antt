@@ -1,7 +1,7 @@
 -- What placing a length keeps from cell to cell.
 use mathlib.Core.Path.{_≡_, refl, sym, ap, subst, _∙_}
 use mathlib.Core.Logic.{_⊎_, inl, inr}
-use mathlib.Core.Bool.{Bool, true, false, _||_}
+use mathlib.Core.Bool.{Bool, true, false, _&&_, _||_}
 use mathlib.Core.List.{List, [], _∷_, _++_, append-assoc}
 use Prim.Native.Nat.{ℕ, zero, suc, _+_, _<_, _≤_, _-_, min}
 use native.Mathlib.Omega.{arith}
@@ -9,12 +9,15 @@ use lib.Dec.{ltb}
 use lib.ListN.{length, take, drop, getD, set, length-set, length-take, length-append, take-append-drop}
 use lib.Seq.{take-append-add, drop-append-le}
 use Rattle.std.proofs.shelf.Lists.{drop-drop, take-more, take-more-set, drop-more, getD-take, drop-set-lt, drop-all, take-all, take-at, take-take, getD-default}
-use Rattle.std.proofs.shelf.Tests.{lt-ltb, le-ltb, cases-eq, cases-lt, true≢false, false≢true}
+use Rattle.std.proofs.shelf.Tests.{lt-ltb, le-ltb, cases-eq, cases-lt, and-parts, cond-both, ltb-true, true≢false, false≢true}
 use Rattle.std.specs.declared.cmp.Ordering.{Ordering}
 use Rattle.std.specs.declared.cmp.Ordering.the-variants.{Less, Equal, Greater}
-use Rattle.measure.specs.Algebra.{Algebra}
+use Rattle.std.specs.Orderings.{reversed}
+use Rattle.measure.specs.Algebra.{Algebra, Laws, Before}
+use Rattle.walks.specs.Rows.{BeforeAll, Ascending}
 use Rattle.walks.specs.Method.{choose, place}
-use Rattle.sweeps.specs.Places.{is-after, is-same, fresh, RowPlaced}
+use Rattle.walks.proofs.Orders.{greater}
+use Rattle.sweeps.specs.Places.{is-after, is-same, fresh, first-cell, RowPlaced}
 
 pub tells-after : (o : Ordering) → true ≡ is-after o → o ≡ Greater
 tells-after Less e = absurd (true≢false e)
@@ -56,6 +59,25 @@ module _ {V : Type 0} (m : Algebra V) where
     pub low : at ≤ count
     pub comes : place m (length row0) x (take count row0) ≡ take (length row0) (take at row0 ++ x ∷ drop at (take count row0))
     pub told : fresh m (ltb count (length row0)) x (take count row0) ≡ (ltb at count || ltb count (length row0))
+
+  -- x comes after every cell before one that it comes after
+  before-at : (y d : V) (ys : List V) (i : ℕ) → BeforeAll m y ys → i < length ys → Before m y (getD ys i d)
+  before-at y d [] i h lt = absurd (omega arith)
+  before-at y d (z ∷ zs) zero h lt = h .0
+  before-at y d (z ∷ zs) (suc i) h lt = before-at y d zs i (h .1) (omega arith)
+
+  earlier : Laws m → (x d : V) (row : List V) (i : ℕ) → Ascending m row → i < length row → m .compare x (getD row i d) ≡ Greater → (p : ℕ) → p ≤ i → m .compare x (getD row p d) ≡ Greater
+  earlier laws x d [] i up lt after p le = absurd (omega arith)
+  earlier laws x d (y ∷ ys) zero up lt after zero le = after
+  earlier laws x d (y ∷ ys) zero up lt after (suc p) le = absurd (omega arith)
+  earlier laws x d (y ∷ ys) (suc i) up lt after zero le =
+      laws .converse y x ∙ ap reversed (laws .transitive y (getD ys i d) x (before-at y d ys i (up .0) (omega arith)) (greater laws x (getD ys i d) after))
+  earlier laws x d (y ∷ ys) (suc i) up lt after (suc p) le = earlier laws x d ys i (up .1) (omega arith) after p (omega arith)
+
+  -- how far x has been looked for
+  pub record Seeks (row : List V) (count : ℕ) (x : V) (at : ℕ) : Type 0 where
+    pub low : at ≤ count
+    pub past : Ascending m (take count row) → Past row count x at
 
   place-past : (i k : ℕ) (x : V) (row : List V) → i ≤ length row → length row ≤ k → ((p : ℕ) → p < i → m .compare x (getD row p x) ≡ Greater) → place m k x row ≡ take i row ++ place m (k - i) x (drop i row)
   place-past zero k x row low short all = ap (λ z. place m z x row) (let e : k ≡ k - 0 = omega arith in e)
@@ -105,6 +127,20 @@ module _ {V : Type 0} (m : Algebra V) where
     pub past-none : Past row0 count x 0
     past-none = record { low = omega arith; all = λ p lt. absurd (omega arith) }
 
+    -- the cells before the first one to compare x with are before x
+    pub first-low : (from : ℕ) → from ≤ count → first-cell m row0 from x ≤ count
+    first-low from le = cond-both (ltb 0 from && is-after (m .compare x (getD row0 (from - 1) x))) from 0 (λ z. z ≤ count) (λ t. le) (λ f. omega arith)
+
+    pub first-past : Laws m → (from : ℕ) → from ≤ count → Ascending m (take count row0) → Past row0 count x (first-cell m row0 from x)
+    first-past laws from le up = cond-both (ltb 0 from && is-after (m .compare x (getD row0 (from - 1) x))) from 0 (Past row0 count x) yes (λ f. past-none)
+      where
+        yes : (ltb 0 from && is-after (m .compare x (getD row0 (from - 1) x))) ≡ true → Past row0 count x from
+        yes t =
+            let b = and-parts (ltb 0 from) (is-after (m .compare x (getD row0 (from - 1) x))) t in
+            let some = ltb-true 0 from (b .0) in
+            let after : m .compare x (getD (take count row0) (from - 1) x) ≡ Greater = ap (m .compare x) (getD-take count row0 (from - 1) x (omega arith)) ∙ tells-after (m .compare x (getD row0 (from - 1) x)) (sym (b .1)) in
+            record { low = le; all = λ p lt. ap (m .compare x) (sym (getD-take count row0 p x (omega arith))) ∙ earlier laws x x (take count row0) (from - 1) up (omega (arith, long)) after p (omega arith) }
+
     pub past-more : (i : ℕ) (d : V) → Past row0 count x i → i < count → m .compare x (getD row0 i d) ≡ Greater → Past row0 count x (i + 1)
     past-more i d h below greater =
         record {
@@ -121,20 +157,21 @@ module _ {V : Type 0} (m : Algebra V) where
         (after ∙ ap (λ z. is-after (m .compare x z)) (getD-default row0 i d x (omega arith)))
         (same ∙ ap (λ z. is-same (m .compare x z)) (getD-default row0 i e x (omega arith)))
 
-    pub placed-same : (i : ℕ) (d : V) → Past row0 count x i → i < count → m .compare x (getD row0 i d) ≡ Equal → RowPlaced m row0 count was x row0 count was
+    pub placed-same : (i : ℕ) (d : V) → Seeks row0 count x i → i < count → m .compare x (getD row0 i d) ≡ Equal → RowPlaced m row0 count was x row0 count was (i + 1)
     placed-same i d h below equal =
         let D : List V = drop (i + 1) (take count row0) in
         let same : m .compare x (getD row0 i x) ≡ Equal = ap (m .compare x) (getD-default row0 i x d (omega arith)) ∙ equal in
         record {
+          next-in = omega arith;
           grows = omega arith;
           bound = fits;
-          lengths = sym (placed-past i h
+          lengths = λ up. sym (placed-past i (h .past up)
               ∙ ap (λ l. take i row0 ++ place m (length row0 - i) x l) (next i below)
               ∙ ap (λ l. take i row0 ++ l) (stays-same (length row0 - i) x (getD row0 i x) D (omega arith) same ∙ sym (next i below))
               ∙ ap (λ l. l ++ drop i (take count row0)) (sym (take-take i count row0 (h .low)))
               ∙ take-append-drop i (take count row0));
           rest = refl;
-          flag = sym (ap (λ b. was || b) (freshly i h
+          flag = λ up. sym (ap (λ b. was || b) (freshly i (h .past up)
               ∙ ap (fresh m (ltb count (length row0)) x) (next i below)
               ∙ ap (λ o. choose o true false (fresh m (ltb count (length row0)) x D)) same) ∙ or-false was);
         }
@@ -192,17 +229,17 @@ module _ {V : Type 0} (m : Algebra V) where
         }
 
     -- all the cells have moved, and the last length of them is carried
-    module _ (at i : ℕ) (row : List V) (carry : V) (e : i ≡ count) (l : Lands row0 count x at) (h : Shifts row0 at x i row carry) where
+    module _ (at i : ℕ) (row : List V) (carry : V) (e : i ≡ count) (low : at ≤ count) (l : Ascending m (take count row0) → Lands row0 count x at) (h : Shifts row0 at x i row carry) where
       end : Shifts row0 at x count row carry
       end = subst (λ z. Shifts row0 at x z row carry) e h
 
-      all-of : place m (length row0) x (take count row0) ≡ take (length row0) (take count row ++ carry ∷ [])
-      all-of = l .comes ∙ ap (take (length row0)) (sym (end .moved))
+      all-of : Ascending m (take count row0) → place m (length row0) x (take count row0) ≡ take (length row0) (take count row ++ carry ∷ [])
+      all-of up = l up .comes ∙ ap (take (length row0)) (sym (end .moved))
 
-      flagged : (b : Bool) → b ≡ (ltb at count || ltb count (length row0)) → (was || b) ≡ (was || fresh m (ltb count (length row0)) x (take count row0))
-      flagged b f = ap (λ z. was || z) (f ∙ sym (l .told))
+      flagged : Ascending m (take count row0) → (b : Bool) → b ≡ (ltb at count || ltb count (length row0)) → (was || b) ≡ (was || fresh m (ltb count (length row0)) x (take count row0))
+      flagged up b f = ap (λ z. was || z) (f ∙ sym (l up .told))
 
-      pub placed-room : count < length row → RowPlaced m row0 count was x (set row count carry) (count + 1) true
+      pub placed-room : count < length row → RowPlaced m row0 count was x (set row count carry) (count + 1) true (at + 1)
       placed-room room =
           let one : count < count + 1 = omega arith in
           let n : length (take count row) ≡ count = length-take count row ∙ omega arith in
@@ -211,20 +248,22 @@ module _ {V : Type 0} (m : Algebra V) where
           let ahead = end .ahead in
           let tails : drop (count + 1) row ≡ drop (count + 1) row0 = cc in
           record {
+            next-in = omega arith;
             grows = omega arith;
             bound = omega (arith, end .size);
-            lengths = take-more-set row count carry room ∙ sym (take-all (length row0) (take count row ++ carry ∷ []) (omega (arith, end .size, length-append (take count row) (carry ∷ [])))) ∙ sym all-of;
+            lengths = λ up. take-more-set row count carry room ∙ sym (take-all (length row0) (take count row ++ carry ∷ []) (omega (arith, end .size, length-append (take count row) (carry ∷ [])))) ∙ sym (all-of up);
             rest = drop-set-lt (count + 1) row count carry one ∙ tails;
-            flag = sym (or-true was) ∙ flagged true (sym (ap (λ b. ltb at count || b) (lt-ltb count (length row0) (omega (arith, end .size))) ∙ or-true (ltb at count)));
+            flag = λ up. sym (or-true was) ∙ flagged up true (sym (ap (λ b. ltb at count || b) (lt-ltb count (length row0) (omega (arith, end .size))) ∙ or-true (ltb at count)));
           }
 
-      pub placed-full : length row ≤ count → (changed : Bool) → changed ≡ (was || ltb at count) → RowPlaced m row0 count was x row count changed
+      pub placed-full : length row ≤ count → (changed : Bool) → changed ≡ (was || ltb at count) → RowPlaced m row0 count was x row count changed at
       placed-full full changed told =
           let n : length (take count row) ≡ length row0 = length-take count row ∙ omega (arith, end .size) in
           record {
+            next-in = omega arith;
             grows = omega arith;
             bound = fits;
-            lengths = sym (all-of ∙ take-at (take count row) (carry ∷ []) (length row0) n);
+            lengths = λ up. sym (all-of up ∙ take-at (take count row) (carry ∷ []) (length row0) n);
             rest = end .ahead;
-            flag = told ∙ flagged (ltb at count) (sym (ap (λ b. ltb at count || b) (le-ltb count (length row0) (omega (arith, end .size))) ∙ or-false (ltb at count)));
+            flag = λ up. told ∙ flagged up (ltb at count) (sym (ap (λ b. ltb at count || b) (le-ltb count (length row0) (omega (arith, end .size))) ∙ or-false (ltb at count)));
           }

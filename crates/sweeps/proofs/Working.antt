@@ -14,10 +14,12 @@ use Rattle.std.proofs.shelf.Lists.{getD-take, getD-drop, drop-drop}
 use Rattle.std.proofs.shelf.Tests.{cases-lt}
 use Rattle.std.proofs.shelf.Sums.{folded-more}
 use Rattle.std.proofs.shelf.Parts.{take-putMid-below, drop-putMid, between-putMid}
-use Rattle.measure.specs.Algebra.{Algebra, joined}
+use Rattle.measure.specs.Algebra.{Algebra, Laws, joined}
 use mathlib.Core.Bool.{Bool, _||_}
 use lib.Dec.{ltb}
+use Rattle.walks.specs.Rows.{Ascending}
 use Rattle.walks.specs.Method.{place}
+use Rattle.walks.proofs.Placing.{place-ascending}
 use Rattle.sweeps.specs.Tables.{start-of, cells}
 use Rattle.sweeps.specs.Places.{fresh, RowPlaced}
 use Rattle.sweeps.specs.Nodes.{Marked, stepped, carried, worked, ArcWorked, TwoRows}
@@ -60,16 +62,26 @@ module _ {V : Type 0} where
   pub cells-long : (k i : ℕ) (v : List V) → 1 ≤ i → i * k ≤ length v → length (cells k i v) ≡ k
   cells-long k i v one le = length-take k (drop (start-of k i) v) ∙ (simp length-drop (omega (arith, row-end k i one)))
 
+module _ {V : Type 0} {m : Algebra V} (laws : Laws m) (k : ℕ) (x : V) where
+  carried-up : (row : Marked V) (o : Option V) → Ascending m (row .0) → Ascending m ((elim o as (λ z. Marked V) [ Some y ↦ stepped m k x y row | None ↦ row ]) .0)
+  carried-up row (Some y) up = place-ascending laws k y (row .0) up
+  carried-up row None up = up
+
+  -- a row that ascends does so when it has been worked on
+  pub worked-up : (row : Marked V) (xs : List V) → Ascending m (row .0) → Ascending m (worked m k x row xs .0)
+  worked-up row [] up = up
+  worked-up row (a ∷ xs) up = worked-up (carried m k x row a) xs (carried-up row (joined m a x) up)
+
 module _ {V : Type 0} (m : Algebra V) (k i held j count : ℕ) (was : Bool) (x : V) (v0 : List V) (two : TwoRows k i held j count (length v0)) where
   -- the length that is read is the one that row i held at first
-  next-of : (p total : ℕ) (changed : Bool) (v : List V) (a : V) → p < held → ArcWorked m k i p j count was x v0 v total changed → a ≡ getD v (start-of k i + p) a
+  next-of : (p total : ℕ) (changed : Bool) (v : List V) (a : V) → Ascending m (take count (cells k j v0)) → p < held → ArcWorked m k i p j count was x v0 v total changed → a ≡ getD v (start-of k i + p) a
       → worked m k x (take count (cells k j v0), was) (take (p + 1) (cells k i v0)) ≡ carried m k x (take total (cells k j v), changed) a
-  next-of p total changed v a lt h read =
+  next-of p total changed v a up lt h read =
       let below : p < k = omega (arith, two .from-held) in
       let long : p < length (cells k i v0) = omega (arith, cells-long k i v0 (two .from-one) (two .from-in)) in
       let is : getD (cells k i v0) p a ≡ a = cell-of k i p v0 a below ∙ sym (other-row k i j p v0 v a (two .from-one) (two .to-one) (two .apart) below (h .before) (h .after)) ∙ sym read in
       folded-more (carried m k x) (take count (cells k j v0), was) (cells k i v0) p a long
-      ∙ ap (λ r. carried m k x r (getD (cells k i v0) p a)) (sym (h .lengths))
+      ∙ ap (λ r. carried m k x r (getD (cells k i v0) p a)) (sym (h .lengths up))
       ∙ ap (λ z. carried m k x (take total (cells k j v), changed) z) is
 
   pub worked-none : (p total : ℕ) (changed : Bool) (v : List V) (a : V) → p < held → ArcWorked m k i p j count was x v0 v total changed → a ≡ getD v (start-of k i + p) a
@@ -78,17 +90,17 @@ module _ {V : Type 0} (m : Algebra V) (k i held j count : ℕ) (was : Bool) (x :
       record {
         bound = h .bound;
         grows = h .grows;
-        lengths = sym (next-of p total changed v a lt h read ∙ ap (λ (o : Option V). elim o [ Some y ↦ stepped m k x y (take total (cells k j v), changed) | None ↦ (take total (cells k j v), changed) ]) absent);
+        lengths = λ up. sym (next-of p total changed v a up lt h read ∙ ap (λ (o : Option V). elim o [ Some y ↦ stepped m k x y (take total (cells k j v), changed) | None ↦ (take total (cells k j v), changed) ]) absent);
         rest = h .rest;
         size = h .size;
         before = h .before;
         after = h .after;
       }
 
-  pub worked-some : (p total : ℕ) (changed : Bool) (v : List V) (a y : V) (n : ℕ) (row′ : List V) (total′ : ℕ) (changed′ : Bool) → p < held → ArcWorked m k i p j count was x v0 v total changed → a ≡ getD v (start-of k i + p) a
-      → joined m a x ≡ Some y → n ≡ k → length (putMid (start-of k j) n v row′) ≡ length v → length row′ ≡ length (take n (drop (start-of k j) v)) → RowPlaced m (take n (drop (start-of k j) v)) total changed y row′ total′ changed′
+  pub worked-some : (p total : ℕ) (changed : Bool) (v : List V) (a y : V) (n : ℕ) (row′ : List V) (total′ : ℕ) (changed′ : Bool) (next : ℕ) → Laws m → p < held → ArcWorked m k i p j count was x v0 v total changed → a ≡ getD v (start-of k i + p) a
+      → joined m a x ≡ Some y → n ≡ k → length (putMid (start-of k j) n v row′) ≡ length v → length row′ ≡ length (take n (drop (start-of k j) v)) → RowPlaced m (take n (drop (start-of k j) v)) total changed y row′ total′ changed′ next
       → ArcWorked m k i (p + 1) j count was x v0 (putMid (start-of k j) n v row′) total′ changed′
-  worked-some p total changed v a y n row′ total′ changed′ lt h read present whole size size′ put =
+  worked-some p total changed v a y n row′ total′ changed′ next laws lt h read present whole size size′ put =
       let s : ℕ = start-of k j in
       let v′ : List V = putMid s n v row′ in
       let row : List V = take n (drop s v) in
@@ -101,17 +113,19 @@ module _ {V : Type 0} (m : Algebra V) (k i held j count : ℕ) (was : Bool) (x :
       let span : s + k - s ≡ k = omega arith in
       let now-is : cells k j v′ ≡ row′ = ap (λ z. take z (drop s v′)) (sym span) ∙ between-putMid s n v row′ (s + k) inside (long′ ∙ sym span) in
       let e : total + (total′ - total) ≡ total′ = omega (arith, put .grows) in
+      let up-now : Ascending m (take count (cells k j v0)) → Ascending m (take total row) = λ up.
+      subst (λ z. Ascending m (take total z)) (sym row-is) (subst (Ascending m) (sym (ap (λ (z : Marked V). z .0) (h .lengths up))) (worked-up laws k x (take count (cells k j v0), was) (take p (cells k i v0)) up)) in
       record {
         grows = omega (arith, h .grows, put .grows);
         bound = omega (arith, put .bound);
-        lengths = ap (λ (z : List V). (z, changed′)) (ap (take total′) now-is ∙ put .lengths
+        lengths = λ up. ap (λ (z : List V). (z, changed′)) (ap (take total′) now-is ∙ put .lengths (up-now up)
             ∙ ap (λ z. place m z y (take total row)) long
             ∙ ap (λ z. place m k y (take total z)) row-is)
-            ∙ ap (λ (b : Bool). (place m k y (take total (cells k j v)), b)) (put .flag
+            ∙ ap (λ (b : Bool). (place m k y (take total (cells k j v)), b)) (put .flag (up-now up)
             ∙ ap (λ z. changed || fresh m (ltb total z) y (take total row)) long
             ∙ ap (λ z. changed || fresh m (ltb total k) y (take total z)) row-is
             ∙ ap (λ z. changed || fresh m (ltb z k) y (take total (cells k j v))) (sym held-is))
-            ∙ sym (next-of p total changed v a lt h read ∙ ap (λ (o : Option V). elim o [ Some z ↦ stepped m k x z (take total (cells k j v), changed) | None ↦ (take total (cells k j v), changed) ]) present);
+            ∙ sym (next-of p total changed v a up lt h read ∙ ap (λ (o : Option V). elim o [ Some z ↦ stepped m k x z (take total (cells k j v), changed) | None ↦ (take total (cells k j v), changed) ]) present);
         rest = ap (drop total′) now-is ∙ put .rest ∙ ap (drop total′) row-is
             ∙ ap (λ z. drop z (cells k j v)) (sym e) ∙ sym (drop-drop (total′ - total) total (cells k j v))
             ∙ ap (drop (total′ - total)) (h .rest) ∙ drop-drop (total′ - total) total (cells k j v0) ∙ ap (λ z. drop z (cells k j v0)) e;

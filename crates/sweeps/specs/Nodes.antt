@@ -9,6 +9,7 @@ use Rattle.std.specs.declared.option.Option.the-variants.{Some, None}
 use Rattle.std.specs.Iters.{folded}
 use Rattle.measure.specs.Algebra.{Algebra, joined}
 use Rattle.walks.specs.Networks.{Network}
+use Rattle.walks.specs.Rows.{Ascending}
 use Rattle.walks.specs.Method.{place, uses}
 use Rattle.sweeps.specs.declared.Arc.{Arc}
 use Rattle.sweeps.specs.Tables.{network, InOrder, start-of, cells, count-of, row-of}
@@ -67,11 +68,11 @@ module _ {V : Type 0} (m : Algebra V) (k : ℕ) (x : V) where
   abbrev pub worked : Marked V → List V → Marked V
   worked row from = folded carried row from
 
--- one row was written, and holds the lengths of `row`
-pub record RowIs {V : Type 0} (k j : ℕ) (values : List V) (count : ℕ) (row : Marked V) (values′ : List V) (count′ : ℕ) (changed : Bool) : Type 0 where
+-- one row was written, and holds the lengths of `row` if its own ascended
+pub record RowIs {V : Type 0} (m : Algebra V) (k j : ℕ) (values : List V) (count : ℕ) (row : Marked V) (values′ : List V) (count′ : ℕ) (changed : Bool) : Type 0 where
   pub bound : count′ ≤ k
   pub grows : count ≤ count′
-  pub lengths : _≡_ {A = Marked V} (take count′ (cells k j values′), changed) row
+  pub lengths : Ascending m (take count (cells k j values)) → _≡_ {A = Marked V} (take count′ (cells k j values′), changed) row
   pub rest : drop count′ (cells k j values′) ≡ drop count′ (cells k j values)
   pub size : length values′ ≡ length values
   pub before : take (start-of k j) values′ ≡ take (start-of k j) values
@@ -80,7 +81,7 @@ pub record RowIs {V : Type 0} (k j : ℕ) (values : List V) (count : ℕ) (row :
 module _ {V : Type 0} (m : Algebra V) where
   -- node j was worked on over an arc of length x from node i
   abbrev pub ArcWorked : ℕ → ℕ → ℕ → ℕ → ℕ → Bool → V → List V → List V → ℕ → Bool → Type 0
-  ArcWorked k i held j count was x values values′ count′ changed = RowIs k j values count (worked m k x (take count (cells k j values), was) (take held (cells k i values))) values′ count′ changed
+  ArcWorked k i held j count was x values values′ count′ changed = RowIs m k j values count (worked m k x (take count (cells k j values), was) (take held (cells k i values))) values′ count′ changed
 
   module _ (net : Network V) (k : ℕ) (down : Bool) (j : ℕ) (values : List V) (counts : List ℕ) where
     abbrev pub over : Marked V → ℕ → Marked V
@@ -94,5 +95,5 @@ module _ {V : Type 0} (m : Algebra V) where
     -- node j was worked on over all its arcs
     pub record NodeWorked (values′ : List V) (counts′ : List ℕ) (changed : Bool) : Type 0 where
       pub count : ℕ
-      pub is : RowIs k j values (count-of counts j) (node-row (net .arcs)) values′ count changed
+      pub is : RowIs m k j values (count-of counts j) (node-row (net .arcs)) values′ count changed
       pub held : counts′ ≡ set counts (j - 1) count

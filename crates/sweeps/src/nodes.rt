@@ -28,12 +28,20 @@ fn work_arc<M: Measure>(
     let target = (to - 1) * k;
     let mut total = count;
     let mut changed = was;
+    let mut from_cell = 0;
     for p in 0..held {
         let a = values[source + p];
         if let Some(y) = a.join(&x) {
-            let placed = place(&mut values[target..target + k], total, changed, y);
+            let placed = place(
+                &mut values[target..target + k],
+                total,
+                from_cell,
+                changed,
+                y,
+            );
             total = placed.0;
             changed = placed.1;
+            from_cell = placed.2;
         }
     }
     (total, changed)

@@ -38,7 +38,7 @@ loop-a-again g c =
     elim (c .if-taken .came) [
       | then-taken w ↦
           simp (w .values-is, w .count-is, w .changed-is)
-          (node-more m net (p .k) (p .down) (p .j) (p .values .now) (p .counts .now) (c .loop-a .a) (c .loop-a .count) _ (c .loop-a .changed) _ (c .loop-a .values) _ _ (c .loop-a .inv) (way ∙ sym (c .taken .ensures) ∙ w .if-taken .taken)
+          (node-more m net (p .k) (p .down) (p .j) (p .values .now) (p .counts .now) (c .loop-a .a) (c .loop-a .count) _ (c .loop-a .changed) _ (c .loop-a .values) _ _ (g .M·Measure·met .lawful) (c .loop-a .inv) (way ∙ sym (c .taken .ensures) ∙ w .if-taken .taken)
           (getD-read (p .lengths .now) (c .loop-a .a) (w .index-lengths-a .result) lt (w .index-lengths-a .is) (m .null)) (b .low) (c .pre .low) (b .apart) (w .work-arc-done .ensures))
       | else-taken w ↦
           simp (w .values-is, w .count-is, w .changed-is)
