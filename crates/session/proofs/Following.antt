@@ -32,9 +32,9 @@ module _ {V : Type 0} (m : Algebra V) (trace : Trace) (work : List Step) (path :
   abbrev pub moved : Trace
   moved = record { settled = trace .settled; cursor = c′ }
 
-  path-only : (T : Tables V) (r : Option (ℕ × V)) → Framed m T path path′ r → PathOnly m path path′ r
+  path-only : (T : Tables V) (r : Option (ℕ × V)) → Framed m T (trace .cursor) path c′ path′ r → PathOnly m path path′ r
   path-only T (Some r) h = h
-  path-only T None h = h
+  path-only T None h = h .0
 
   pub next-done : (T : Tables V) (r : Option (ℕ × V)) → Nexted m T (trace .cursor) work path c′ work′ path′ r → NextDone m trace work path r moved work′ path′
   next-done T r h = record { settled = refl; work-size = h .work-size; path-size = h .path-size; frame = path-only T r (h .frame) }

@@ -39,9 +39,12 @@ module _ {V : Type 0} {m : Algebra V} (laws : Laws m) (T : Tables V) where
     -- no path was handed out yet
     pub fresh-some : (begun : Bool) (d : ℕ) → begun ≡ false → Opened m T j p work work′ (Some d) → Advanced m T j p depth begun work work′ (Some (p, d))
     fresh-some true d e h = absurd (true≢false e)
-    fresh-some false d e h = (h .0, λ t tr.
-      let down = h .2 t (tr .settled) in
-      record { next = opens laws T t (tr .settled) j (tr .low) (tr .high) p (arcs-of (take d work′)) (tr .at) (h .1) (down .soonest); begun = (h .0, h .1, record { chain = down .chain; home = down .home }) })
+    fresh-some false d e h = (
+      h .0,
+      λ t tr.
+          let down = h .2 t (tr .settled) in
+          record { next = opens laws T t (tr .settled) j (tr .low) (tr .high) p (arcs-of (take d work′)) (tr .at) (h .1) (down .soonest); begun = (h .0, h .1, record { chain = down .chain; home = down .home }) },
+    )
 
     pub fresh-none : (begun : Bool) → begun ≡ false → Opened m T j p work work′ None → Advanced m T j p depth begun work work′ None
     fresh-none true e h = absurd (true≢false e)
@@ -50,12 +53,15 @@ module _ {V : Type 0} {m : Algebra V} (laws : Laws m) (T : Tables V) where
     -- the last path of its length was handed out
     pub passed-some : (begun : Bool) (mid : List Step) (d : ℕ) → begun ≡ true → Turned m T (j, p) depth work mid None → Opened m T j (p + 1) mid work′ (Some d) → Advanced m T j p depth begun work work′ (Some (p + 1, d))
     passed-some false mid d e h o = absurd (false≢true e)
-    passed-some true mid d e h o = (o .0, λ t tr.
-      let down = o .2 t (tr .settled) in
-      record {
-        next = moves-on laws T t (tr .settled) j (tr .low) (tr .high) p (arcs-of (take depth work)) (whole (j, p) (take depth work) (tr .at .2)) (h .1 (sound-is laws T t (tr .settled)) (tr .at .2)) (arcs-of (take d work′)) (o .1) (down .soonest);
-        begun = (o .0, o .1, record { chain = down .chain; home = down .home });
-      })
+    passed-some true mid d e h o = (
+      o .0,
+      λ t tr.
+          let down = o .2 t (tr .settled) in
+          record {
+            next = moves-on laws T t (tr .settled) j (tr .low) (tr .high) p (arcs-of (take depth work)) (whole (j, p) (take depth work) (tr .at .2)) (h .1 (sound-is laws T t (tr .settled)) (tr .at .2)) (arcs-of (take d work′)) (o .1) (down .soonest);
+            begun = (o .0, o .1, record { chain = down .chain; home = down .home });
+          },
+    )
 
     pub passed-none : (begun : Bool) (mid : List Step) → begun ≡ true → Turned m T (j, p) depth work mid None → Opened m T j (p + 1) mid work′ None → Advanced m T j p depth begun work work′ None
     passed-none false mid e h o = absurd (false≢true e)
@@ -96,10 +102,14 @@ module _ {V : Type 0} {m : Algebra V} (laws : Laws m) (T : Tables V) where
           record {
             next = subst (Next m (net-of m T) (T .source) t j (Some (arcs-of (take depth work)))) (sym arcs-are)
                 (goes-on laws T t (tr .settled) j (tr .low) (tr .high) p (arcs-of (take depth work)) (whole (j, p) (take depth work) (tr .at .2)) (arcs-of (take kept mid) ++ arcs-of (take more part)) (turn .next (arcs-of (take more part)) (d .soonest)));
-            begun = (fits, tr .at .1, subst (Stands m T (j, p)) (sym steps) (record {
-              chain = chain-join m T (j, p) (take kept mid) (take more part) (turn .chain) (d .chain);
-              home = subst (Home m T) (sym (end-join (T .arcs) (j, p) (take kept mid) (take more part))) (d .home);
-            }));
+            begun = (
+              fits,
+              tr .at .1,
+              subst (Stands m T (j, p)) (sym steps) (record {
+                chain = chain-join m T (j, p) (take kept mid) (take more part) (turn .chain) (d .chain);
+                home = subst (Home m T) (sym (end-join (T .arcs) (j, p) (take kept mid) (take more part))) (d .home);
+              }),
+            );
           }
 
       pub turned-some : (begun : Bool) → begun ≡ true → Advanced m T j p depth begun work (take kept mid ++ (part ++ rest)) (Some (p, kept + more))

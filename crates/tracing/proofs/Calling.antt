@@ -31,9 +31,9 @@ written-reverse work d path path′ lw lp w =
     let e : length (take d path′) ≡ d = length-take-le d path′ lp in
     let f : length (arcs-of (take d work)) ≡ d = arcs-length (take d work) ∙ length-take-le d work lw in
     ext-getD 0 (take d path′) (reverse (arcs-of (take d work))) (e ∙ sym (length-reverse (arcs-of (take d work)) ∙ f)) (λ i l.
-      let lt : i < d = omega arith in
-      getD-take d path′ i 0 lt ∙ w .cells i lt
-      ∙ sym (getD-reverse (arcs-of (take d work)) i 0 (omega arith) ∙ ap (λ z. getD (arcs-of (take d work)) (z - 1 - i) 0) f ∙ arcs-at (take d work) (d - 1 - i) ∙ ap (λ (z : Step). z .arc) (getD-take d work (d - 1 - i) no-step (omega arith))))
+    let lt : i < d = omega arith in
+    getD-take d path′ i 0 lt ∙ w .cells i lt
+    ∙ sym (getD-reverse (arcs-of (take d work)) i 0 (omega arith) ∙ ap (λ z. getD (arcs-of (take d work)) (z - 1 - i) 0) f ∙ arcs-at (take d work) (d - 1 - i) ∙ ap (λ (z : Step). z .arc) (getD-take d work (d - 1 - i) no-step (omega arith))))
 
 module _ {V : Type 0} {m : Algebra V} (laws : Laws m) (T : Tables V) (c : Cursor) (work work′ : List Step) where
   -- the sizes are those of a settled session

@@ -135,8 +135,8 @@ module _ {V : Type 0} (m : Algebra V) (T : Tables V) where
             let P : List ℕ → List ℕ → Type 0 = λ w z. Soonest (Later (Back m T) (Home m T) x w) z in
             subst (λ w. P w (arcs-of (take i work ++ (t ∷ [])) ++ v)) (sym old)
             (subst (P (arcs-of (take i work) ++ (getD work i no-step .arc ∷ arcs-of (drop (i + 1) (take depth work))))) (sym (arcs-more (take i work) t v))
-              (chain-next m T sound x (take i work) (getD work i no-step .arc ∷ arcs-of (drop (i + 1) (take depth work))) (t .arc ∷ v) before
-                (stepwise (sound .steady) .next-turns (End x (take i work)) (lab (T .arcs) (getD work i no-step)) (lab (T .arcs) t) (getD work i no-step .arc) (t .arc) (arcs-of (drop (i + 1) (take depth work))) v joint last low h′)))
+            (chain-next m T sound x (take i work) (getD work i no-step .arc ∷ arcs-of (drop (i + 1) (take depth work))) (t .arc ∷ v) before
+            (stepwise (sound .steady) .next-turns (End x (take i work)) (lab (T .arcs) (getD work i no-step)) (lab (T .arcs) t) (getD work i no-step .arc) (t .arc) (arcs-of (drop (i + 1) (take depth work))) v joint last low h′)))
 
   dropping-more : (x y : Label) (depth : ℕ) (work : List Step) → depth ≤ length work → (i : ℕ) → i < depth → y ≡ end-of (T .arcs) x (take i work) → Dropping x depth work (i + 1)
       → (Sorted T → NoneAbove (Back m T) (Home m T) y (getD work i no-step .arc)) → Dropping x depth work i
@@ -158,7 +158,7 @@ module _ {V : Type 0} (m : Algebra V) (T : Tables V) where
       let z = drops .size in
       subst (λ w. Turn m T x (take depth w) (take left (set now (left - 1) t))) e
       (subst (λ d. Turn m T x (take depth now) (take d (set now (left - 1) t))) f
-        (dropping-turns x y depth now size (left - 1) (omega arith) is (subst (Dropping x depth now) (sym f) drops) t low sound (subst (λ w. Stands m T x (take depth w)) (sym e) stands)))
+      (dropping-turns x y depth now size (left - 1) (omega arith) is (subst (Dropping x depth now) (sym f) drops) t low sound (subst (λ w. Stands m T x (take depth w)) (sym e) stands)))
 
   pub turn-less : (x y : Label) (depth : ℕ) (now : List Step) (left : ℕ) → depth ≤ length now → 0 < left → Dropping x depth now left → y ≡ end-of (T .arcs) x (take (left - 1) now)
       → (Sorted T → NoneAbove (Back m T) (Home m T) y (getD now (left - 1) no-step .arc)) → Dropping x depth now (left - 1)

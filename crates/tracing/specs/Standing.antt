@@ -72,10 +72,10 @@ module _ {V : Type 0} (m : Algebra V) (T : Tables V) where
     pub none : (u : List ℕ) → PathTo m (net-of m T) (T .source) t target u → ¬ Since m (net-of m T) (T .source) t (newest handed) u
     pub stands : Standing t handed c′ work′
 
-  -- only the path's cells are written
-  abbrev pub Framed : List ℕ → List ℕ → Option (ℕ × V) → Type 0
-  Framed path path′ (Some r) = (r .0 ≤ length path) × (drop (r .0) path′ ≡ drop (r .0) path)
-  Framed path path′ None = path′ ≡ path
+  -- only the path's cells are written; without a path nothing is, and the cursor stays
+  abbrev pub Framed : Cursor → List ℕ → Cursor → List ℕ → Option (ℕ × V) → Type 0
+  Framed c path c′ path′ (Some r) = (r .0 ≤ length path) × (drop (r .0) path′ ≡ drop (r .0) path)
+  Framed c path c′ path′ None = (path′ ≡ path) × (c′ ≡ c)
 
   abbrev pub Meant : Table V → List (List ℕ) → ℕ → Cursor → List Step → List ℕ → Option (ℕ × V) → Type 0
   Meant t handed target c′ work′ path′ (Some r) = Hands t handed target c′ work′ path′ (r .0) (r .1)
@@ -85,7 +85,7 @@ module _ {V : Type 0} (m : Algebra V) (T : Tables V) where
     pub target : c′ .target ≡ c .target
     pub work-size : length work′ ≡ length work
     pub path-size : length path′ ≡ length path
-    pub frame : Framed path path′ r
+    pub frame : Framed c path c′ path′ r
     pub meant : (t : Table V) (handed : List (List ℕ)) → Standing t handed c work → T .nodes * T .k ≤ length path → Meant t handed (c .target) c′ work′ path′ r
 
   -- the tables of a settled solve, where no null circuit is reached

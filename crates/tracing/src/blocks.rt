@@ -41,7 +41,10 @@ pub fn further<M: Measure>(lent: Lent<M>, node: usize, place: usize, above: usiz
             return None;
         }
         if let Some(q) = link(lent, arc, lent.lengths[i], node, here) {
-            return Some(Step { arc: i + 1, place: q });
+            return Some(Step {
+                arc: i + 1,
+                place: q,
+            });
         }
     }
     None

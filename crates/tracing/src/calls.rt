@@ -20,7 +20,9 @@ fn sized<M: Measure>(lent: Lent<M>) -> bool
     if lent.nodes > 1000 || lent.k > 20 {
         return false;
     }
-    lent.arcs.len() <= lent.lengths.len() && lent.values.len() >= lent.nodes * lent.k && lent.counts.len() >= lent.nodes
+    lent.arcs.len() <= lent.lengths.len()
+        && lent.values.len() >= lent.nodes * lent.k
+        && lent.counts.len() >= lent.nodes
 }
 
 impl Cursor {
@@ -28,7 +30,12 @@ impl Cursor {
     pub fn new(target: usize) -> Cursor
         ensures { λ r. ⌜ r ≡ «new-cursor» target ⌝ }
     {
-        Cursor { target, place: 0, depth: 0, begun: false }
+        Cursor {
+            target,
+            place: 0,
+            depth: 0,
+            begun: false,
+        }
     }
 
     // Hands out the next path: writes its arcs from the source on into the first cells of the path table, and tells how many there are and its length.
@@ -46,7 +53,15 @@ impl Cursor {
     ) -> Option<(usize, M)>
         ensures { λ r. ⌜ Nexted (M·Measure .algebra) (tables nodes (order .k) (order .source) (now (arcs .entry)) (now (lengths .entry)) (now (values .entry)) (now (counts .entry))) (now (self .entry)) (now (work .entry)) (now (path .entry)) (now (self .exit)) (now (work .exit)) (now (path .exit)) r ⌝ }
     {
-        let lent = Lent { nodes, k: order.k, source: order.source, arcs, lengths, values, counts };
+        let lent = Lent {
+            nodes,
+            k: order.k,
+            source: order.source,
+            arcs,
+            lengths,
+            values,
+            counts,
+        };
         if !sized(lent) {
             return None;
         }

@@ -4,6 +4,8 @@ mod calls;
 mod labels;
 mod lent;
 mod nexts;
+#[cfg(test)]
+mod tests;
 mod theorems;
 mod turns;
 

@@ -23,7 +23,14 @@ fn open<M: Measure>(lent: Lent<M>, node: usize, place: usize, work: &mut [Step])
 }
 
 // Finds the next path, and tells the place of its length and how many arcs it has.
-pub fn advance<M: Measure>(lent: Lent<M>, node: usize, place: usize, depth: usize, begun: bool, work: &mut [Step]) -> Option<(usize, usize)>
+pub fn advance<M: Measure>(
+    lent: Lent<M>,
+    node: usize,
+    place: usize,
+    depth: usize,
+    begun: bool,
+    work: &mut [Step],
+) -> Option<(usize, usize)>
     requires sizes { ⌜ Sizes (read lent) ⌝ }
     ensures { λ r. ⌜ Advanced (M·Measure .algebra) (read (lent .entry)) node place depth begun (now (work .entry)) (now (work .exit)) r ⌝ }
 {

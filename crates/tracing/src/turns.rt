@@ -13,7 +13,12 @@ use measure::Measure;
 use sweeps::Arc;
 
 // Goes back from a label to the source, over the lowest arc at each level, and tells how many levels there are.
-pub fn descend<M: Measure>(lent: Lent<M>, node: usize, place: usize, work: &mut [Step]) -> Option<usize>
+pub fn descend<M: Measure>(
+    lent: Lent<M>,
+    node: usize,
+    place: usize,
+    work: &mut [Step],
+) -> Option<usize>
     requires sizes { ⌜ Sizes (read lent) ⌝ }
     ensures { λ r. ⌜ Descended (M·Measure .algebra) (read (lent .entry)) (node, place) (now (work .exit)) r ⌝ }
 {
@@ -52,7 +57,13 @@ fn level(arcs: &[Arc], node: usize, place: usize, levels: usize, work: &[Step]) 
 }
 
 // Drops levels until one has a further arc, takes that, and tells how many levels there are then.
-pub fn turn<M: Measure>(lent: Lent<M>, node: usize, place: usize, depth: usize, work: &mut [Step]) -> Option<usize>
+pub fn turn<M: Measure>(
+    lent: Lent<M>,
+    node: usize,
+    place: usize,
+    depth: usize,
+    work: &mut [Step],
+) -> Option<usize>
     requires sizes { ⌜ Sizes (read lent) ⌝ }
     requires within { ⌜ depth ≤ length (now work) ⌝ }
     ensures { λ r. ⌜ Turned (M·Measure .algebra) (read (lent .entry)) (node, place) depth (now (work .entry)) (now (work .exit)) r ⌝ }

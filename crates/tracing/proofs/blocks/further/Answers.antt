@@ -10,8 +10,8 @@ use Rattle.tracing.proofs.blocks.further.Needs.{then-above-first, else-above-f
 pub loop-i-holds : need.loop-i-holds
 loop-i-holds g c =
     elim (c .if-above-first .came) [
-      then-above-first w ↦ (omega (arith, w .from-is, w .if-above-first .taken), omega (arith, w .from-is), λ sorted. passed-first (g .M·Measure .algebra) _ _ _ _ (c .in-Some .ensures tt .0) (c .in-Some .ensures tt .1) (c .before-node-first .result) (c .args .above) (c .if-above-first .from) (λ l. w .from-is) (λ l. absurd (omega (arith, w .if-above-first .taken))) (c .before-node-first .ensures .meant sorted))
-    | else-above-first w ↦ (omega (arith, w .from-is), omega (arith, w .from-is, w .if-above-first .left), λ sorted. passed-first (g .M·Measure .algebra) _ _ _ _ (c .in-Some .ensures tt .0) (c .in-Some .ensures tt .1) (c .before-node-first .result) (c .args .above) (c .if-above-first .from) (λ l. absurd (omega (arith, w .if-above-first .left))) (λ l. w .from-is) (c .before-node-first .ensures .meant sorted))
+      | then-above-first w ↦ (omega (arith, w .from-is, w .if-above-first .taken), omega (arith, w .from-is), λ sorted. passed-first (g .M·Measure .algebra) _ _ _ _ (c .in-Some .ensures tt .0) (c .in-Some .ensures tt .1) (c .before-node-first .result) (c .args .above) (c .if-above-first .from) (λ l. w .from-is) (λ l. absurd (omega (arith, w .if-above-first .taken))) (c .before-node-first .ensures .meant sorted))
+      | else-above-first w ↦ (omega (arith, w .from-is), omega (arith, w .from-is, w .if-above-first .left), λ sorted. passed-first (g .M·Measure .algebra) _ _ _ _ (c .in-Some .ensures tt .0) (c .in-Some .ensures tt .1) (c .before-node-first .result) (c .args .above) (c .if-above-first .from) (λ l. absurd (omega (arith, w .if-above-first .left))) (λ l. w .from-is) (c .before-node-first .ensures .meant sorted))
     ]
 
 pub returns-then-arc-node : need.returns-then-arc-node
