@@ -7,7 +7,7 @@ use super::Arc;
 use measure::Measure;
 
 // The largest magnitude of an arc's length.
-const LONGEST: u64 = 1000000000;
+pub const LONGEST: u64 = 1000000000;
 
 // Whether an arc leads from a node to another and is not too long.
 fn fits<M: Measure>(nodes: usize, arc: Arc, x: M) -> bool

@@ -11,7 +11,10 @@ mod settling;
 mod solving;
 mod tables;
 
+pub use inspection::LONGEST;
 pub use order::Order;
+pub use orders::MOST_NODES;
+pub use orders::WIDEST;
 pub use refusal::Refusal;
 pub use solving::solve;
 pub use tables::clear;

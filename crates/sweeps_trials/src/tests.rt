@@ -1,3 +1,5 @@
+ghost use mathlib.Core.Path.{_≡_};
+ghost use Rattle.sweeps_trials.specs.Told.{open-arc, passes-told, null-told, refusal-told};
 use measure::Sum;
 use measure::SumMeasure;
 use std::test::*;
@@ -8,7 +10,9 @@ use sweeps::Solved;
 use sweeps::solve;
 
 // An open arc.
-fn arc(start: u32, end: u32) -> Arc {
+fn arc(start: u32, end: u32) -> Arc
+    ensures { λ r. ⌜ r ≡ open-arc start end ⌝ }
+{
     Arc {
         start,
         end,
@@ -17,7 +21,9 @@ fn arc(start: u32, end: u32) -> Arc {
 }
 
 // The number of passes, or 0 for a refused solve.
-fn passes(answer: &Result<Solved, Refusal>) -> usize {
+fn passes(answer: Result<Solved, Refusal>) -> usize
+    ensures { λ r. ⌜ r ≡ passes-told answer ⌝ }
+{
     match answer {
         Ok(found) => found.passes,
         Err(_) => 0,
@@ -25,7 +31,9 @@ fn passes(answer: &Result<Solved, Refusal>) -> usize {
 }
 
 // Whether a null circuit is told.
-fn null_told(answer: &Result<Solved, Refusal>) -> bool {
+fn null(answer: Result<Solved, Refusal>) -> bool
+    ensures { λ r. ⌜ r ≡ null-told answer ⌝ }
+{
     match answer {
         Ok(found) => found.null,
         Err(_) => false,
@@ -33,7 +41,9 @@ fn null_told(answer: &Result<Solved, Refusal>) -> bool {
 }
 
 // The number of the refusal, or 0.
-fn refused(answer: &Result<Solved, Refusal>) -> u8 {
+fn refusal(answer: Result<Solved, Refusal>) -> u8
+    ensures { λ r. ⌜ r ≡ refusal-told answer ⌝ }
+{
     match answer {
         Ok(_) => 0,
         Err(why) => why.number(),
@@ -68,10 +78,9 @@ fn diamond() -> Result<(), Fail> {
         &mut values,
         &mut counts,
     );
-    check_eq(passes(&answer), 7)?;
-    check(!null_told(&answer))?;
+    check_eq(passes(answer), 7)?;
+    check(!null(answer))?;
     check(counts == [1, 3, 3, 3, 9])?;
-    check_eq(values[0].value, 0)?;
     check_eq(values[2].value, 0)?;
     check_eq(values[3].value, 3)?;
     check_eq(values[8].value, 5)?;
@@ -81,82 +90,88 @@ fn diamond() -> Result<(), Fail> {
     check_eq(values[12].value, -6)
 }
 
-// There and back over two arcs, and the number of the answer's passes.
-fn there_and_back(back: i64, values: &mut [Sum], counts: &mut [usize]) -> Result<Solved, Refusal> {
-    let arcs = [arc(2, 1), arc(1, 2)];
-    let lengths = [Sum::new(back), Sum::new(3)];
-    solve(
-        2,
-        Order { k: 2, source: 1 },
-        &arcs,
-        &lengths,
-        values,
-        counts,
-    )
-}
-
+// There by 3 and back: the circuit is after null, null, or before null.
 #[test]
 fn circuits() -> Result<(), Fail> {
+    let arcs = [arc(2, 1), arc(1, 2)];
+    let order = Order { k: 2, source: 1 };
     let mut values = [Sum::new(7); 4];
     let mut counts = [7usize; 2];
-    let after = there_and_back(-2, &mut values, &mut counts);
-    check_eq(passes(&after), 5)?;
-    check(!null_told(&after))?;
+    let after = solve(
+        2,
+        order,
+        &arcs,
+        &[Sum::new(-2), Sum::new(3)],
+        &mut values,
+        &mut counts,
+    );
+    check_eq(passes(after), 5)?;
+    check(!null(after))?;
     check_eq(values[1].value, 1)?;
     check_eq(values[3].value, 4)?;
-    let null = there_and_back(-3, &mut values, &mut counts);
-    check_eq(passes(&null), 3)?;
-    check(null_told(&null))?;
+    let even = solve(
+        2,
+        order,
+        &arcs,
+        &[Sum::new(-3), Sum::new(3)],
+        &mut values,
+        &mut counts,
+    );
+    check_eq(passes(even), 3)?;
+    check(null(even))?;
     check(counts == [1, 1])?;
     check_eq(values[2].value, 3)?;
     check_eq(values[3].value, 0)?;
-    let before = there_and_back(-4, &mut values, &mut counts);
-    check_eq(refused(&before), 11)?;
+    let before = solve(
+        2,
+        order,
+        &arcs,
+        &[Sum::new(-4), Sum::new(3)],
+        &mut values,
+        &mut counts,
+    );
+    check_eq(refusal(before), 11)?;
     check(counts == [0, 0])?;
     check_eq(values[2].value, 0)
 }
 
 #[test]
 fn refusals() -> Result<(), Fail> {
+    let arcs = [arc(1, 2)];
+    let lengths = [Sum::new(1)];
     let mut values = [Sum::new(7); 4];
     let mut counts = [7usize; 2];
     check_eq(
-        refused(
-            &solve(
-                0,
-                Order { k: 2, source: 1 },
-                &[],
-                &[],
-                &mut values,
-                &mut counts,
-            ),
-        ),
+        refusal(solve(
+            0,
+            Order { k: 2, source: 1 },
+            &arcs,
+            &lengths,
+            &mut values,
+            &mut counts,
+        )),
         1,
     )?;
     check_eq(
-        refused(
-            &solve(
-                2,
-                Order { k: 2, source: 3 },
-                &[],
-                &[],
-                &mut values,
-                &mut counts,
-            ),
-        ),
+        refusal(solve(
+            2,
+            Order { k: 2, source: 3 },
+            &arcs,
+            &lengths,
+            &mut values,
+            &mut counts,
+        )),
         9,
     )?;
     check_eq(
-        refused(
-            &solve(
-                2,
-                Order { k: 3, source: 1 },
-                &[],
-                &[],
-                &mut values,
-                &mut counts,
-            ),
-        ),
+        refusal(solve(
+            2,
+            Order { k: 3, source: 1 },
+            &arcs,
+            &lengths,
+            &mut values,
+            &mut counts,
+        )),
         10,
     )?;
     check(counts == [7, 7])?;
