@@ -40,7 +40,7 @@ lab arcs t = (arc-at arcs (t .arc) .start, t .place)
 abbrev pub no-step : Step
 no-step = record { arc = 0; place = 0 }
 
--- node is at or past the end of every arc up to r, and no end past r is below it
+-- the arcs 1 to low end below the node, and those past high do not
 pub record Split (arcs : List Arc) (node low high : ℕ) : Type 0 where
   pub below : (c : ℕ) → 1 ≤ c → c ≤ low → arc-at arcs c .end < node
   pub beyond : (c : ℕ) → high < c → c ≤ length arcs → node ≤ arc-at arcs c .end

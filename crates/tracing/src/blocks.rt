@@ -7,7 +7,7 @@ use super::lent::Lent;
 use measure::Measure;
 use sweeps::Arc;
 
-// How many arcs stand before those into a node and beyond it.
+// The number of arcs that end below a node, which are the first ones. Found by halving.
 fn before_node(arcs: &[Arc], node: usize) -> usize
     ensures { λ r. ⌜ Splits (now (arcs .entry)) node r ⌝ }
 {

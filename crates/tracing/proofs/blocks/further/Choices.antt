@@ -1,6 +1,5 @@
-use Prim.Native.Nat.{_≤_}
-use Rattle.tracing.specs.Labels.{read, Sorted, Back, Label}
-use Prim.Native.Nat.{ℕ, _<_}
+use Prim.Native.Nat.{ℕ, _<_, _≤_}
+use Rattle.tracing.specs.Labels.{Label, read, Sorted, Back}
 use Rattle.tracing.proofs.blocks.further.Given as given
 
 abbrev pub Inv-loop-i : given.InvT-loop-i
