@@ -11,13 +11,16 @@ use Rattle.std.specs.declared.option.Option.{Option}
 use Rattle.std.specs.declared.option.Option.the-variants.{Some, None}
 use Rattle.std.specs.declared.result.Result.{Result}
 use Rattle.std.specs.declared.result.Result.the-variants.{Ok, Err}
-use Rattle.measure.specs.Algebra.{Algebra}
+use Rattle.measure.specs.Algebra.{Algebra, Laws}
 use Rattle.sweeps.specs.declared.Arc.{Arc}
 use Rattle.sweeps.specs.declared.Solved.{Solved}
 use Rattle.sweeps.specs.declared.order.Order.{Order}
 use Rattle.sweeps.specs.declared.refusal.Refusal.{Refusal}
 use Rattle.sweeps.specs.declared.refusal.Refusal.the-variants.{NegativeCircuit}
-use Rattle.walks.specs.Circuits.{NullCircuit as NullReached}
+use Rattle.walks.specs.Circuits.{NegativeCircuit as NegativeReached, NullCircuit as NullReached}
+use Rattle.walks.specs.Solves.{settled, outcome}
+use Rattle.walks.specs.Theorems.{Within}
+use Rattle.walks.proofs.Solving.{refusals}
 use Rattle.sweeps.specs.Tables.{network, Cleared, Whether}
 use Rattle.sweeps.specs.Answers.{solve-verdict, Answered, Meant, Solves}
 use Rattle.session.specs.declared.stages.Draft.{Draft}
@@ -53,11 +56,32 @@ module _ {V : Type 0} (m : Algebra V) (d : Draft) (o : Order) (values : List V) 
     frame = record { value-size = h .value-size; count-size = h .count-size; past-values = h .past-values; past-counts = h .past-counts };
   }
 
-  module _ (net : Net V) (arcs : List Arc) (lengths : List V) (holds : DraftHolds m net d arcs lengths) where
-    means : (v : Option Refusal) (a : Answer) → Meant m (net .nodes) (o .k) (o .source) (net .arcs) (net .lengths) values counts v r values′ counts′ → Passed d o r a
+  module _ (laws : Laws m) (net : Net V) (arcs : List Arc) (lengths : List V) (holds : DraftHolds m net d arcs lengths) where
+    -- a solve that began had its source within the network
+    begun : solve-verdict (net .nodes) (o .k) (o .source) (length values) (length counts) ≡ None → o .source ≤ net .nodes
+    begun e = grind (arith, tells)
+
+    -- a settled solve reaches no circuit before null
+    unreached : (p : ℕ) → o .source ≤ net .nodes → outcome m (listed m net) (o .k) (o .source) ≡ settled p → ¬ NegativeReached m (listed m net) (o .source)
+    unreached p high ended bad =
+        let n = holds .nodes in
+        let low = d .ok .1 in
+        let within : Within m (listed m net) (o .k) (o .source) = record {
+              formed = λ a open′. holds .ordered .proper a (open′ .low) (open′ .high);
+              nodes-high = omega arith;
+              k-low = o .ok .0;
+              k-high = o .ok .1;
+              s-low = o .ok .2;
+              s-high = high;
+            } in
+        let no = refusals laws (listed m net) (o .k) (o .source) within .1 bad in
+        let z : _≡_ {A = ℕ} 0 1 = cc in
+        omega arith
+
+    means : (v : Option Refusal) → solve-verdict (net .nodes) (o .k) (o .source) (length values) (length counts) ≡ v → (a : Answer) → Meant m (net .nodes) (o .k) (o .source) (net .arcs) (net .lengths) values counts v r values′ counts′ → Passed d o r a
         → SolveMeant m net (o .k) (o .source) v a arcs lengths values′ counts′
-    means (Some why) a h e = tt
-    means None (Ok p) h e =
+    means (Some why) v a h e = tt
+    means None v (Ok p) h e =
         let g = subst (λ q. Meant m (net .nodes) (o .k) (o .source) (net .arcs) (net .lengths) values counts None q values′ counts′) (e .0) h in
         record {
           ended = g .ended;
@@ -67,12 +91,13 @@ module _ {V : Type 0} (m : Algebra V) (d : Draft) (o : Order) (values : List V) 
             width = ap (λ (x : Order). x .k) (e .2);
             from = ap (λ (x : Order). x .source) (e .2);
             held = g .held;
+            sound = unreached (p .1 .passes) (begun v) (g .ended);
             exact = g .exact;
             null-told = subst (λ b. Whether b (NullReached m (listed m net) (o .source))) (sym (e .3)) (g .null-told);
           };
           null-told = g .null-told;
         }
-    means None (Err p) h e =
+    means None v (Err p) h e =
         let g = subst (λ q. Meant m (net .nodes) (o .k) (o .source) (net .arcs) (net .lengths) values counts None q values′ counts′) (e .0) h in
         record { ended = g .ended; circuit = g .circuit; holds = subst (λ x. DraftHolds m net x arcs lengths) (sym (e .1)) holds }
 
@@ -94,4 +119,4 @@ module _ {V : Type 0} (m : Algebra V) (d : Draft) (o : Order) (values : List V) 
         let low = d .ok .0 in
         let high = d .ok .1 in
         subst (λ v. SolveMeant m net (o .k) (o .source) v a arcs lengths values′ counts′) (same-verdict (net .nodes) (o .k) (o .source) (length values) (length counts) (omega arith) (omega arith))
-        (means (solve-verdict (net .nodes) (o .k) (o .source) (length values) (length counts)) a (moved .meant (holds .ordered)) p)
+        (means (solve-verdict (net .nodes) (o .k) (o .source) (length values) (length counts)) refl a (moved .meant (holds .ordered)) p)

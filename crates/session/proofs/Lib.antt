@@ -1,5 +1,6 @@
+pub mod Answering
 pub mod Clearing
+pub mod Following
 pub mod Holding
 pub mod Ordered
 pub mod Reading
-pub mod Answering

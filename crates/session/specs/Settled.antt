@@ -11,7 +11,7 @@ use Rattle.std.specs.declared.option.Option.the-variants.{Some, None}
 use Rattle.std.specs.declared.result.Result.{Result}
 use Rattle.std.specs.declared.result.Result.the-variants.{Ok, Err}
 use Rattle.measure.specs.Algebra.{Algebra}
-use Rattle.walks.specs.Circuits.{NullCircuit as NullReached}
+use Rattle.walks.specs.Circuits.{NegativeCircuit as NegativeReached, NullCircuit as NullReached}
 use Rattle.walks.specs.Rows.{Table}
 use Rattle.walks.specs.Theorems.{ExactRow}
 use Rattle.sweeps.specs.declared.Arc.{Arc}
@@ -33,12 +33,14 @@ Decided (Some why) r = r ≡ Err why
 Decided None r = isOk r ≡ true
 
 module _ {V : Type 0} (m : Algebra V) where
-  -- The session and its tables hold this network, and the rows t of the first k distinct lengths of walks from s to each node.
+  -- The session and its tables hold this network, from whose source s no circuit before null is reached, and the rows t of the
+  -- first k distinct lengths of walks from s to each node.
   pub record SettledHolds (net : Net V) (k s : ℕ) (t : Table V) (session : Settled) (arcs : List Arc) (lengths values : List V) (counts : List ℕ) : Type 0 where
     pub draft : DraftHolds m net (session .draft) arcs lengths
     pub width : session .order .k ≡ k
     pub from : session .order .source ≡ s
     pub held : RowsHeld m (net .nodes) k values counts t
+    pub sound : ¬ NegativeReached m (listed m net) s
     pub exact : (j : ℕ) → ExactRow m (listed m net) k s j (t j)
     pub null-told : Whether (session .null) (NullReached m (listed m net) s)
 

@@ -7,14 +7,12 @@ ghost use Rattle.session.specs.Drafts.{DraftHolds, NewDraft, PutDone, PutMeant
 use super::Draft;
 use measure::Measure;
 use sweeps::Arc;
+use sweeps::LONGEST;
+use sweeps::MOST_NODES;
 use sweeps::Refusal;
 
-// The most nodes of a network, the most arcs, and the largest magnitude of an arc's length.
-const MOST_NODES: usize = 1000;
-
+// The most arcs of a session.
 const MOST_ARCS: usize = 10000;
-
-const LONGEST: u64 = 1000000000;
 
 impl Draft {
     // A draft for so many nodes, without arcs.

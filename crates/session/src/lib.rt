@@ -3,10 +3,13 @@ mod draft;
 mod settled;
 mod solving;
 mod stages;
+mod traces;
 
 pub use stages::Draft;
 pub use stages::Settled;
+pub use stages::Trace;
 pub use sweeps::Arc;
 pub use sweeps::Order;
 pub use sweeps::Refusal;
 pub use sweeps::Solved;
+pub use tracing::Step;

@@ -1,5 +1,6 @@
 ghost use Prim.Native.Nat.{_≤_};
 use sweeps::Order;
+use tracing::Cursor;
 
 // A session that takes arcs: for so many nodes, with so many arcs so far, the last of which ends at `last` (0 for none).
 #[derive(Drop)]
@@ -17,4 +18,11 @@ pub struct Settled {
     pub(crate) order: Order,
     pub(crate) null: bool,
     ghost fits: { order .source ≤ draft .nodes },
+}
+
+// A settled session whose paths to a node are handed out, one at a time.
+#[derive(Drop)]
+pub struct Trace {
+    pub(crate) settled: Settled,
+    pub(crate) cursor: Cursor,
 }

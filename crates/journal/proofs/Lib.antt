@@ -1,0 +1,14 @@
+pub mod RowCells
+pub mod Entries
+pub mod Drafted
+pub mod Solved
+pub mod Rested
+pub mod Opened
+pub mod Traced
+pub mod Answering
+pub mod Lasting
+pub mod Marks
+pub mod Lengths
+pub mod Ends
+pub mod Staying
+pub mod Noting

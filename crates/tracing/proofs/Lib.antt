@@ -1,0 +1,9 @@
+pub mod Cells
+pub mod Chains
+pub mod Turning
+pub mod Meaning
+pub mod Firsts
+pub mod Advancing
+pub mod Calling
+pub mod Segments
+pub mod Starting
