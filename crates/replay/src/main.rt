@@ -31,7 +31,9 @@ use reading::read_line;
 
 // Cells of the arc and length tables, and of the tables of rows and paths: enough for 100 nodes and K 20.
 const ARCS: usize = 1000;
+
 const CELLS: usize = 2000;
+
 const NODES: usize = 100;
 
 // The calls of the lines after the first; a line that is no call gets a message with its number.
@@ -118,7 +120,10 @@ fn run(rt: &LibcRuntime) -> Result<(), Failure> {
         Some((nodes, Kind::MoneyThenMinutes)) => play::<Then<Sum, Sum>>(rt, nodes, text),
         Some((nodes, Kind::MoneyThenReversed)) => play::<Then<Sum, Reversed<Sum>>>(rt, nodes, text),
         None => {
-            println!(rt, "line 1: no network: write the number of nodes and the kind, as 'network 5 money then minutes'")?;
+            println!(
+                rt,
+                "line 1: no network: write the number of nodes and the kind, as 'network 5 money then minutes'"
+            )?;
             Ok(())
         }
     }

@@ -23,13 +23,21 @@ fn call_text<M: Columns>(heap: Global, call: &Call<M>) -> Result<String, AllocEr
         }
         Call::Close { arc } => format!(heap, "close {arc}"),
         Call::Open { arc } => format!(heap, "open {arc}"),
-        Call::Solve { order, values: _, counts: _ } => {
+        Call::Solve {
+            order,
+            values: _,
+            counts: _,
+        } => {
             let k = order.k;
             let source = order.source;
             format!(heap, "solve {k} {source}")
         }
         Call::Length { node, place } => format!(heap, "length {node} {place}"),
-        Call::Trace { target, work: _, path: _ } => format!(heap, "trace {target}"),
+        Call::Trace {
+            target,
+            work: _,
+            path: _,
+        } => format!(heap, "trace {target}"),
         Call::Next => String::from_str(heap, "next"),
         Call::Finish => String::from_str(heap, "finish"),
         Call::Reopen => String::from_str(heap, "reopen"),
@@ -45,8 +53,14 @@ fn answer_text<M: Columns>(heap: Global, answer: &Answer<M>) -> Result<String, A
         }
         Answer::Done => String::from_str(heap, "done"),
         Answer::Numbered(arc) => format!(heap, "arc {arc}"),
-        Answer::Solved { passes, null: false } => format!(heap, "settled after {passes} passes"),
-        Answer::Solved { passes, null: true } => format!(heap, "settled after {passes} passes, a null circuit is reached"),
+        Answer::Solved {
+            passes,
+            null: false,
+        } => format!(heap, "settled after {passes} passes"),
+        Answer::Solved { passes, null: true } => format!(
+            heap,
+            "settled after {passes} passes, a null circuit is reached"
+        ),
         Answer::Value(None) => String::from_str(heap, "none"),
         Answer::Value(Some(length)) => column_text(heap, &length),
         Answer::Path { count: _, length } => column_text(heap, &length),
@@ -55,7 +69,13 @@ fn answer_text<M: Columns>(heap: Global, answer: &Answer<M>) -> Result<String, A
 }
 
 // The line of a node's row: as many lengths as its count says, from a cell on.
-fn row_line<M: Columns>(heap: Global, node: usize, cells: &[M], start: usize, count: usize) -> Result<String, AllocError> {
+fn row_line<M: Columns>(
+    heap: Global,
+    node: usize,
+    cells: &[M],
+    start: usize,
+    count: usize,
+) -> Result<String, AllocError> {
     let mut line = format!(heap, "  node {node} lengths")?;
     if count == 0 {
         line.push_str(" none")?;
@@ -87,7 +107,10 @@ pub fn print_entry<M: Columns>(rt: &LibcRuntime, entry: &Entry<M>) -> Result<(),
     let call = call_text(heap, &entry.call)?;
     let answer = answer_text(heap, &entry.answer)?;
     let mut line = format!(heap, "{call}: {answer}")?;
-    if let Answer::Path { count: _, length: _ } = entry.answer {
+    if let Answer::Path {
+        count: _,
+        length: _,
+    } = entry.answer {
         line.push_str(" by arcs")?;
         for arc in entry.path.iter() {
             let arc = *arc;
@@ -97,7 +120,11 @@ pub fn print_entry<M: Columns>(rt: &LibcRuntime, entry: &Entry<M>) -> Result<(),
     }
     rt.println(line)?;
     match entry.call {
-        Call::Solve { order, values: _, counts: _ } => print_rows(rt, entry, order.k),
+        Call::Solve {
+            order,
+            values: _,
+            counts: _,
+        } => print_rows(rt, entry, order.k),
         _ => Ok(()),
     }
 }

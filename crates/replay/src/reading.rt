@@ -35,7 +35,12 @@ fn number(word: Option<&str>) -> Option<usize> {
 }
 
 // A put: start, end and length.
-fn read_put<M: Columns>(heap: Global, start: Option<&str>, end: Option<&str>, length: Option<&str>) -> Result<Option<Call<M>>, AllocError> {
+fn read_put<M: Columns>(
+    heap: Global,
+    start: Option<&str>,
+    end: Option<&str>,
+    length: Option<&str>,
+) -> Result<Option<Call<M>>, AllocError> {
     let Some(length) = length else {
         return Ok(None);
     };
@@ -53,7 +58,11 @@ fn read_put<M: Columns>(heap: Global, start: Option<&str>, end: Option<&str>, le
 }
 
 // A relength: arc and length.
-fn read_relength<M: Columns>(heap: Global, arc: Option<&str>, length: Option<&str>) -> Result<Option<Call<M>>, AllocError> {
+fn read_relength<M: Columns>(
+    heap: Global,
+    arc: Option<&str>,
+    length: Option<&str>,
+) -> Result<Option<Call<M>>, AllocError> {
     let Some(length) = length else {
         return Ok(None);
     };
@@ -86,10 +95,18 @@ fn read_solve<M: Columns>(k: Option<&str>, source: Option<&str>) -> Line<M> {
 }
 
 // The calls that take whole numbers or nothing.
-fn read_plain<M: Columns>(name: &str, first: Option<&str>, second: Option<&str>) -> Option<Call<M>> {
+fn read_plain<M: Columns>(
+    name: &str,
+    first: Option<&str>,
+    second: Option<&str>,
+) -> Option<Call<M>> {
     match name {
-        "close" => Some(Call::Close { arc: number(first)? }),
-        "open" => Some(Call::Open { arc: number(first)? }),
+        "close" => Some(Call::Close {
+            arc: number(first)?,
+        }),
+        "open" => Some(Call::Open {
+            arc: number(first)?,
+        }),
         "length" => Some(Call::Length {
             node: number(first)?,
             place: number(second)?,

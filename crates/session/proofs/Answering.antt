@@ -67,13 +67,13 @@ module _ {V : Type 0} (m : Algebra V) (d : Draft) (o : Order) (values : List V) 
         let n = holds .nodes in
         let low = d .ok .1 in
         let within : Within m (listed m net) (o .k) (o .source) = record {
-              formed = λ a open′. holds .ordered .proper a (open′ .low) (open′ .high);
-              nodes-high = omega arith;
-              k-low = o .ok .0;
-              k-high = o .ok .1;
-              s-low = o .ok .2;
-              s-high = high;
-            } in
+          formed = λ a open′. holds .ordered .proper a (open′ .low) (open′ .high);
+          nodes-high = omega arith;
+          k-low = o .ok .0;
+          k-high = o .ok .1;
+          s-low = o .ok .2;
+          s-high = high;
+        } in
         let no = refusals laws (listed m net) (o .k) (o .source) within .1 bad in
         let z : _≡_ {A = ℕ} 0 1 = cc in
         omega arith

@@ -71,7 +71,7 @@ module _ {V : Type 0} (m : Algebra V) (trace : Trace) (work : List Step) (path :
         let arcs-are : take (most - 0) arcs ≡ net .arcs = ap (λ i. take i arcs) (used most e) ∙ d .in-arcs in
         let lengths-are : take (most - 0) lengths ≡ net .lengths = ap (λ i. take i lengths) (used most e) ∙ d .in-lengths in
         let same : tables (trace .settled .draft .nodes) (trace .settled .order .k) (trace .settled .order .source) (take (most - 0) arcs) (take (most - 0) lengths) values counts ≡ tables (net .nodes) k s (net .arcs) (net .lengths) values counts =
-            (λ j. tables (d .nodes j) (holds .settled .width j) (holds .settled .from j) (arcs-are j) (lengths-are j) values counts) in
+        (λ j. tables (d .nodes j) (holds .settled .width j) (holds .settled .from j) (arcs-are j) (lengths-are j) values counts) in
         let n : Nexted m (tables (net .nodes) k s (net .arcs) (net .lengths) values counts) (trace .cursor) work path c′ work′ path′ r = subst (λ T. Nexted m T (trace .cursor) work path c′ work′ path′ r) same h in
         means r (n .target) (n .path-size)
         (subst (λ j. Meant m (tables (net .nodes) k s (net .arcs) (net .lengths) values counts) t handed j c′ work′ path′ r) (holds .aimed) (n .meant t handed (holds .standing) (holds .path-room)))

@@ -17,7 +17,12 @@ use tracing::Step;
 
 impl Settled {
     // Opens a trace of the paths to a node; or gives the session back with the reason.
-    pub fn trace(self, target: usize, work: &[Step], path: &[usize]) -> Result<Trace, (Settled, Refusal)>
+    pub fn trace(
+        self,
+        target: usize,
+        work: &[Step],
+        path: &[usize],
+    ) -> Result<Trace, (Settled, Refusal)>
         ensures { λ r. ⌜ TraceDone (trace-verdict (self .draft .nodes) (self .order .k) (self .null) target (length (now (work .entry))) (length (now (path .entry)))) self target r ⌝ }
     {
         if target == 0 || target > self.draft.nodes {
