@@ -39,7 +39,8 @@ fn walk(file: &[u8], limits: Limits) -> Result<Progress, Fault>
             Err(reason) => return Err(Fault { reason, at }),
         }
     }
-    if at < file.len() {
+    let end = file.len();
+    if at < end {
         return Err(Fault {
             reason: Reason::Trailing,
             at,

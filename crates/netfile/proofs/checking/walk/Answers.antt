@@ -36,8 +36,8 @@ returns-in-Err c =
     let e = ap (judged-next (c .args .limits) p) (sym (take-rest file at)) ∙ c .in-Err .ensures tt in
     breaks (c .args .limits) file at p (c .in-Err .reason) (c .if-file-limits .left) (c .loop-progress .inv) (stops (c .args .limits) (p .stage) p (drop at file) (c .in-Err .reason) going e)
 
-pub returns-then-at-file : need.returns-then-at-file
-returns-then-at-file c =
+pub returns-then-at-end : need.returns-then-at-end
+returns-then-at-end c =
     let file = c .args .file .now in
     let at = c .loop-progress .at in
     let p = c .loop-progress .progress in
@@ -46,7 +46,7 @@ returns-then-at-file c =
       | in-Over w ↦ w .in-Over .is
       | in-rest w ↦ absurd (both-ways _ (w .matches-is) (c .if-not-matches .left))
     ] in
-    let lt : at < length file = c .if-at-file .taken in
+    let lt : at < length file = c .if-at-end .taken in
     breaks (c .args .limits) file at p _ (c .if-file-limits .left) (c .loop-progress .inv) (trailing (c .args .limits) (p .stage) p (drop at file) over (omega (arith, length-drop at file)))
 
 pub returns : need.returns
@@ -57,4 +57,4 @@ returns c =
       | in-Over w ↦ w .in-Over .is
       | in-rest w ↦ absurd (both-ways _ (w .matches-is) (c .if-not-matches .left))
     ] in
-    accepts (c .args .limits) (c .args .file .now) (c .loop-progress .at) p (c .if-file-limits .left) (c .loop-progress .inv) (c .if-at-file .left) over
+    accepts (c .args .limits) (c .args .file .now) (c .loop-progress .at) p (c .if-file-limits .left) (c .loop-progress .inv) (c .if-at-end .left) over
