@@ -1,4 +1,13 @@
 // What each record of a file does and prints.
+ghost use mathlib.Core.List.{List};
+ghost use mathlib.Core.Path.{_≡_};
+ghost use Prim.Native.Nat.{ℕ, _≤_};
+ghost use lib.ListN.{take};
+ghost use Rattle.std.specs.Of.Vec.{vec-items};
+ghost use Rattle.std.specs.Vec.{made};
+ghost use Rattle.walks.specs.Rows.{Table};
+ghost use Rattle.session.specs.Nets.{Net};
+ghost use Rattle.session.specs.Settled.{SettledHolds};
 use super::LIMITS;
 use super::failure::Failure;
 use super::failure::FailureFromAlloc;
@@ -53,11 +62,15 @@ fn row_of<M: Columns>(
     counts: &[usize],
     node: usize,
     k: usize,
-) -> Result<Vec<M>, AllocError> {
+) -> Result<Vec<M>, AllocError>
+    ensures { λ r. ⌜ ((net : Net M) (s : ℕ) (t : Table M) (arcs : List Arc) (lengths : List M) → SettledHolds (M·Measure .algebra) net k s t (now (settled .entry)) arcs lengths (now (values .entry)) (now (counts .entry)) → 1 ≤ node → node ≤ net .nodes → made r (λ v. vec-items v ≡ take k (t node))) ⌝ }
+{
     let mut row = Vec::new(heap);
     for place in 0..k {
-        if let Ok(Some(length)) = settled.length(values, counts, node, place + 1) {
-            row.push(length)?;
+        match settled.length(values, counts, node, place + 1) {
+            Ok(Some(length)) => row.push(length)?,
+            Ok(None) => {}
+            Err(_) => {}
         }
     }
     Ok(row)

@@ -10,7 +10,8 @@ const LIMITS: Limits = Limits {
 };
 
 // Three arcs over three nodes, two queries, one with a target.
-const GOOD: &[u8] = b"NW\x00\x03\x01AR\x00\x01\x00\x02\xff\xff\xff\xfeAR\x00\x03\x00\x02\x00\x00\x00\x07AR\x00\x01\x00\x03\x3b\x9a\xca\x00QS\x14\x00\x01QT\x00\x03\x00\x01QS\x01\x03\xe8EN";
+const GOOD: &[u8] =
+    b"NW\x00\x03\x01AR\x00\x01\x00\x02\xff\xff\xff\xfeAR\x00\x03\x00\x02\x00\x00\x00\x07AR\x00\x01\x00\x03\x3b\x9a\xca\x00QS\x14\x00\x01QT\x00\x03\x00\x01QS\x01\x03\xe8EN";
 
 // Where the records of that file start.
 const STARTS: [usize; 8] = [0, 5, 15, 25, 35, 40, 46, 51];
@@ -69,23 +70,41 @@ fn fields_and_their_ranges() -> Result<(), Fail> {
     check_eq(judged(b"NW\x00\x03\x05", LIMITS), (17, 0))?;
     check_eq(judged(b"NW\x00\x03\x01QS\x15\x00\x01EN", LIMITS), (17, 5))?;
     check_eq(judged(b"NW\x00\x03\x01QS\x01\x03\xe9EN", LIMITS), (17, 5))?;
-    check_eq(judged(b"NW\x00\x03\x01QS\x01\x00\x01QT\x00\x01\x00\x00EN", LIMITS), (17, 10))?;
+    check_eq(
+        judged(b"NW\x00\x03\x01QS\x01\x00\x01QT\x00\x01\x00\x00EN", LIMITS),
+        (17, 10),
+    )?;
     // a target that is no node passes
-    check_eq(judged(b"NW\x00\x03\x01QS\x01\x00\x01QT\x00\x00\x00\x01EN", LIMITS), (0, 0))
+    check_eq(
+        judged(b"NW\x00\x03\x01QS\x01\x00\x01QT\x00\x00\x00\x01EN", LIMITS),
+        (0, 0),
+    )
 }
 
 #[test]
 fn bytes_behind_the_end() -> Result<(), Fail> {
     check_eq(judged(b"NW\x00\x03\x01QS\x01\x00\x01ENE", LIMITS), (18, 12))?;
-    check_eq(judged(b"NW\x00\x03\x01QS\x01\x00\x01ENEN", LIMITS), (18, 12))
+    check_eq(
+        judged(b"NW\x00\x03\x01QS\x01\x00\x01ENEN", LIMITS),
+        (18, 12),
+    )
 }
 
 // What a put declines keeps its number and tells the arc's first byte.
 #[test]
 fn arcs_that_are_not_taken() -> Result<(), Fail> {
-    check_eq(judged(b"NW\x00\x03\x01AR\x00\x00\x00\x02\x00\x00\x00\x01", LIMITS), (2, 5))?;
-    check_eq(judged(b"NW\x00\x03\x01AR\x00\x01\x00\x04\x00\x00\x00\x01", LIMITS), (2, 5))?;
-    check_eq(judged(b"NW\x00\x03\x01AR\x00\x02\x00\x02\x00\x00\x00\x01", LIMITS), (3, 5))?;
+    check_eq(
+        judged(b"NW\x00\x03\x01AR\x00\x00\x00\x02\x00\x00\x00\x01", LIMITS),
+        (2, 5),
+    )?;
+    check_eq(
+        judged(b"NW\x00\x03\x01AR\x00\x01\x00\x04\x00\x00\x00\x01", LIMITS),
+        (2, 5),
+    )?;
+    check_eq(
+        judged(b"NW\x00\x03\x01AR\x00\x02\x00\x02\x00\x00\x00\x01", LIMITS),
+        (3, 5),
+    )?;
     check_eq(
         judged(
             b"NW\x00\x03\x01AR\x00\x01\x00\x02\x00\x00\x00\x01AR\x00\x02\x00\x01\x00\x00\x00\x01",
@@ -93,9 +112,15 @@ fn arcs_that_are_not_taken() -> Result<(), Fail> {
         ),
         (4, 15),
     )?;
-    check_eq(judged(b"NW\x00\x03\x01AR\x00\x01\x00\x02\x3b\x9a\xca\x01", LIMITS), (5, 5))?;
     check_eq(
-        judged(b"NW\x00\x03\x04AR\x00\x01\x00\x02\x00\x00\x00\x01\x80\x00\x00\x00", LIMITS),
+        judged(b"NW\x00\x03\x01AR\x00\x01\x00\x02\x3b\x9a\xca\x01", LIMITS),
+        (5, 5),
+    )?;
+    check_eq(
+        judged(
+            b"NW\x00\x03\x04AR\x00\x01\x00\x02\x00\x00\x00\x01\x80\x00\x00\x00",
+            LIMITS,
+        ),
         (5, 5),
     )?;
     let two = Limits {
