@@ -1,0 +1,7 @@
+use mathlib.Core.Logic.{_⊎_, inl, inr}
+use Rattle.kpaths.proofs.Ends.{end-past, end-none}
+use Rattle.kpaths.proofs.paths.arc_end.Needs as need
+
+pub returns-then-number-eq0 : need.returns-then-number-eq0
+returns-then-number-eq0 c =
+    elim (c .then-number-eq0 .either) [ inl h ↦ end-none (c .args .arcs .now) (c .args .number) h | inr h ↦ end-past (c .args .arcs .now) (c .args .number) (h .1) ]

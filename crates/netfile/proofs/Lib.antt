@@ -1,0 +1,5 @@
+pub mod Room
+pub mod Heads
+pub mod Runs
+pub mod Unique
+pub mod Total

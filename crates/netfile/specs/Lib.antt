@@ -1,0 +1,5 @@
+pub mod Fields
+pub mod Records
+pub mod Reasons
+pub mod Judging
+pub mod Readings

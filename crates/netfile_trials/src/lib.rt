@@ -1,0 +1,3 @@
+// Files that are refused, and where.
+#[cfg(test)]
+mod tests;
