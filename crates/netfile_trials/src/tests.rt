@@ -148,3 +148,34 @@ fn what_a_reader_takes() -> Result<(), Fail> {
     };
     check_eq(judged(GOOD, few_bytes), (20, 0))
 }
+
+// The same faults at later arcs, at other kinds and at the smallest limits.
+#[test]
+fn faults_further_on() -> Result<(), Fail> {
+    check_eq(
+        judged(
+            b"NW\x00\x03\x02AR\x00\x01\x00\x02\x00\x00\x00\x01AR\x00\x03\x00\x03\x00\x00\x00\x01",
+            LIMITS,
+        ),
+        (3, 15),
+    )?;
+    check_eq(
+        judged(
+            b"NW\x00\x03\x03AR\x00\x01\x00\x03\x00\x00\x00\x01\x00\x00\x00\x02AR\x00\x01\x00\x02\x00\x00\x00\x01\x00\x00\x00\x02",
+            LIMITS,
+        ),
+        (4, 19),
+    )?;
+    let none = Limits {
+        bytes: 0,
+        nodes: 100,
+        arcs: 0,
+    };
+    check_eq(judged(b"N", none), (20, 0))?;
+    let no_arcs = Limits {
+        bytes: 32768,
+        nodes: 100,
+        arcs: 0,
+    };
+    check_eq(judged(GOOD, no_arcs), (6, 5))
+}

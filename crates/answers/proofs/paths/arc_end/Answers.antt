@@ -1,6 +1,6 @@
 use mathlib.Core.Logic.{_⊎_, inl, inr}
-use Rattle.kpaths.proofs.Ends.{end-past, end-none}
-use Rattle.kpaths.proofs.paths.arc_end.Needs as need
+use Rattle.answers.proofs.Ends.{end-past, end-none}
+use Rattle.answers.proofs.paths.arc_end.Needs as need
 
 pub returns-then-number-eq0 : need.returns-then-number-eq0
 returns-then-number-eq0 c =

@@ -2,7 +2,7 @@ ghost use mathlib.Core.List.{_∷_};
 ghost use mathlib.Core.Path.{_≡_};
 ghost use Rattle.std.specs.Of.Vec.{vec-items};
 ghost use Rattle.std.specs.Vec.{made};
-ghost use Rattle.kpaths.specs.Paths.{end-of, ends-of};
+ghost use Rattle.answers.specs.Paths.{end-of, ends-of};
 use session::Arc;
 use std::alloc::AllocError;
 use std::alloc::Global;

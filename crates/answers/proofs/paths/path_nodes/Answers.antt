@@ -2,9 +2,9 @@ use mathlib.Core.Path.{_≡_, sym, ap, _∙_}
 use mathlib.Core.List.{_∷_}
 use native.Mathlib.Omega.{arith}
 use lib.Seq.{take-all}
-use Rattle.kpaths.specs.Paths.{ends-of}
-use Rattle.kpaths.proofs.Ends.{nodes-more}
-use Rattle.kpaths.proofs.paths.path_nodes.Needs as need
+use Rattle.answers.specs.Paths.{ends-of}
+use Rattle.answers.proofs.Ends.{nodes-more}
+use Rattle.answers.proofs.paths.path_nodes.Needs as need
 
 pub loop-number-again : need.loop-number-again
 loop-number-again c =

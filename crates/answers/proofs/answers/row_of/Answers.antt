@@ -6,9 +6,9 @@ use lib.ListN.{take}
 use Rattle.std.specs.Of.Vec.{vec-items}
 use Rattle.std.specs.Runs.{nth}
 use Rattle.std.specs.declared.option.Option.the-variants.{Some, None}
-use Rattle.kpaths.proofs.Rowing.{answered, take-some, take-none, ok-is, err-is-not}
-use Rattle.kpaths.proofs.answers.row_of.Needs as need
-use Rattle.kpaths.proofs.answers.row_of.Needs.{in-Ok-Some·in-Continue-push, in-Ok-None, in-Err}
+use Rattle.answers.proofs.Rowing.{answered, take-some, take-none, ok-is, err-is-not}
+use Rattle.answers.proofs.answers.row_of.Needs as need
+use Rattle.answers.proofs.answers.row_of.Needs.{in-Ok-Some·in-Continue-push, in-Ok-None, in-Err}
 
 pub loop-place-again : need.loop-place-again
 loop-place-again g c = λ net s t arcs lengths holds low high.

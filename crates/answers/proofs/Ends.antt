@@ -8,7 +8,7 @@ use lib.ListN.{length, getD, take}
 use Rattle.std.proofs.shelf.Lists.{getD-past, map-more}
 use Rattle.sweeps.specs.declared.Arc.{Arc}
 use Rattle.sweeps.specs.Tables.{no-arc}
-use Rattle.kpaths.specs.Paths.{end-of, ends-of}
+use Rattle.answers.specs.Paths.{end-of, ends-of}
 
 pub end-past : (arcs : List Arc) (n : ℕ) → length arcs < n → 0 ≡ end-of arcs n
 end-past arcs zero h = refl
