@@ -1,4 +1,6 @@
 // The answers to a network file: its check, and for each of its queries the solve and the traces, printed.
+#![tactic(auto)]
+
 use measure::{Reversed, Sum, Then};
 use netfile::{Kind, Limits, check};
 use report::file_refused_line;

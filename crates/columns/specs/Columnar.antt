@@ -1,5 +1,5 @@
 -- A value as a row of whole numbers, its columns, and back.
-use Rattle.std.specs.Prelude.{◌≡◌, ℕ, ◌-◌, ◌^◌, ◌<◌, ◌≤◌, min, true, List, length, ℤ, pos, is_some, Some, None, Option, slice_index_or, unsigned_abs}
+use Rattle.std.specs.Prelude.{◌≡◌, ℕ, ◌-◌, ◌^◌, ◌<◌, ◌≤◌, min, true, List, length, ℤ, pos, is_some, Some, Option, slice_index_or, unsigned_abs}
 
 pub record Columnar (V : Type 0) : Type 0 where
   -- how many columns each value has

@@ -1,14 +1,14 @@
 -- Telling and building are inverse, for each of the three measures.
-use Rattle.std.specs.Prelude.{◌≡◌, ℕ, ◌+◌, ◌-◌, ◌^◌, ◌<◌, ◌≤◌, min, Bool, true, false, cond, ◌⊎◌, List, [], ◌∷◌, ◌++◌, length, take, drop, ℤ, pos, is_some, Some, None, Option, ◌≢◌, slice_index_or, unsigned_abs, refl}
+use Rattle.std.specs.Prelude.{◌≡◌, ℕ, ◌+◌, ◌-◌, ◌^◌, ◌<◌, ◌≤◌, true, cond, ◌⊎◌, List, [], ◌∷◌, ◌++◌, length, take, drop, ℤ, pos, is_some, Some, None, Option, ◌≢◌, slice_index_or, unsigned_abs, refl}
 use Rattle.std.proofs.Common.{sym, ap, subst, ◌∙◌, inl, inr, ⊎_elim, arith, length-append, length-take, length-drop, take-append-drop, get_or-take, get_or-drop, le-leb}
 use Rattle.std.proofs.Math.Seq.{take-append_seam, drop-append_seam}
-use Rattle.std.proofs.str.Laws.{order}
+use Rattle.std.proofs.lemmas.Bool.{cases_lt}
 use Rattle.std.proofs.lemmas.List.{get_or_append_left, get_or-append_right}
 use Rattle.std.proofs.lemmas.Bool.Decides.{nat_tests}
 use Rattle.measure.specs.declared.sum.Sum.{Sum}
 use Rattle.measure.specs.declared.reversed.Reversed.{Reversed}
 use Rattle.measure.specs.declared.then.Then.{Then}
-use Rattle.measure.specs.Sums.{clamped, nearest}
+use Rattle.measure.specs.Sums.{clamped}
 use Rattle.measure.specs.SumLaws.{sum_same, nearest_in}
 use Rattle.columns.specs.Columnar.{Columnar, Ranged, Inverse}
 use Rattle.columns.specs.Tables.{one_number, sum_columns, turned, reversed_columns, both, then_columns}
@@ -28,7 +28,7 @@ lone_back (c ∷ []) a e =
     (order' (unsigned_abs c))
   where
     order' : (n : ℕ) → (n ≤ 2 ^ 62) ⊎ (2 ^ 62 < n)
-    order' n = ⊎_elim inr inl (order (2 ^ 62) n)
+    order' n = ⊎_elim inr inl (cases_lt (2 ^ 62) n)
 lone_back (c ∷ d ∷ cs) a e = absurd (let z : ◌≡◌ {A = ℕ} 0 1 = cc in omega arith)
 
 lone_builds : (cs : List ℤ) → length cs ≡ 1 → Ranged cs → is_some (one_number cs) ≡ true
@@ -80,7 +80,7 @@ ranged_append xs ys p q k lt =
     ⊎_elim
     (λ h. rw (get_or_append_left xs ys (pos 0) k h) (p k h))
     (λ h. rw (get_or-append_right xs ys (length xs) k (pos 0) refl h) (q (k - length xs) (omega arith)))
-    (order k (length xs))
+    (cases_lt k (length xs))
 
 ranged_take : (w : ℕ) (cs : List ℤ) → w ≤ length cs → Ranged cs → Ranged (take w cs)
 ranged_take w cs le r k lt = let n = length-take w cs in let h : k < w = omega arith in rw (get_or-take w cs k (pos 0) h) (r k (omega arith))

@@ -1,5 +1,5 @@
 -- The columns of the three measures.
-use Rattle.std.specs.Prelude.{ℕ, ◌+◌, ◌^◌, cond, List, [], ◌∷◌, ◌++◌, take, drop, ℤ, Some, None, Option, nat_le, unsigned_abs}
+use Rattle.std.specs.Prelude.{◌+◌, ◌^◌, cond, List, [], ◌∷◌, ◌++◌, take, drop, ℤ, Some, None, Option, nat_le, unsigned_abs}
 use Rattle.measure.specs.declared.sum.Sum.{Sum}
 use Rattle.measure.specs.declared.reversed.Reversed.{Reversed}
 use Rattle.measure.specs.declared.then.Then.{Then}

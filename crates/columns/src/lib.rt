@@ -1,4 +1,6 @@
 // Measures whose values are rows of whole numbers: what a file and a report see of a length.
+#![tactic(auto)]
+
 ghost use Rattle.std.specs.Prelude.{◌≡◌};
 ghost use Rattle.std.specs.List.{slice_get};
 ghost use Rattle.columns.specs.Columnar.{Columnar, Inverse, told};

@@ -6,7 +6,7 @@ use std::alloc::{AllocError, Global};
 
 // The columns of a value with a stroke between, as `2/7`.
 pub fn column_text<M: Columns>(heap: Global, value: &M) -> Result<String, AllocError>
-    ensures { columnar.width < 2 ^ 64 → IfOk result (λ t. string_bytes t ≡ row_text (columnar.tell value.now)) }
+    ensures { M.Columns.columnar.width < 2 ^ 64 → IfOk result (λ t. string_bytes t ≡ row_text (M.Columns.columnar.tell value.now)) }
 {
     let mut text = String::new(heap);
     for i in 0..M::width() {

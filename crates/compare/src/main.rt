@@ -1,4 +1,6 @@
 // Reads a kind of length and routes, and prints each route's length and the routes from first to last.
+#![tactic(auto)]
+
 use columns::{Columns, column_text};
 use measure::{Reversed, Sum, Then};
 use routes::{

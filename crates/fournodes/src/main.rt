@@ -1,4 +1,6 @@
 // Builds small networks by calls, solves them and prints their rows.
+#![tactic(auto)]
+
 use anyhow::anyhow;
 use columns::column_text;
 use measure::{Measure, Sum};

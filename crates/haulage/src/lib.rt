@@ -1,4 +1,6 @@
 // A measure of one's own, as a user of the operator adds it: hauls, by fuel and minutes together.
+#![tactic(auto)]
+
 ghost use Rattle.measure.specs.Algebra.{Laws};
 ghost use Rattle.haulage.specs.Hauls.{larger_algebra};
 

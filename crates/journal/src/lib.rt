@@ -1,4 +1,6 @@
 // Any call on a session in any stage, and whole runs of calls: what is promised of every log.
+#![tactic(auto)]
+
 mod calls;
 mod faults;
 mod histories;

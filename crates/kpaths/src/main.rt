@@ -1,4 +1,6 @@
 // Reads a network file from standard input, solves and traces as its queries ask, and prints the answers.
+#![tactic(auto)]
+
 use answers::{Failure, answer_file};
 use std::io::Read;
 

@@ -1,4 +1,6 @@
 // Small network files, answered one after another as `kpaths` answers one.
+#![tactic(auto)]
+
 use answers::{Failure, answer_file};
 
 fn case(rt: &HostRuntime, name: &str, file: &[u8]) -> Result<(), Failure> {

@@ -1,17 +1,15 @@
 -- The laws of the measure of whole numbers.
-use Rattle.std.specs.Prelude.{◌≡◌, ℕ, ◌+◌, ◌-◌, ◌^◌, ◌<◌, ◌≤◌, min, Bool, true, false, cond, ℤ, pos, negsuc, ◌+ℤ◌, ◌<ℤ◌, Some, None, Option, unsigned_abs, refl}
-use Rattle.std.specs.declared.cmp.Ordering.TheVariants.{Less, Equal, Greater}
-use Rattle.std.specs.declared.cmp.Ordering.{Ordering}
+use Rattle.std.specs.Prelude.{◌≡◌, ◌+◌, ◌^◌, ◌≤◌, cond, ℤ, pos, negsuc, ◌+ℤ◌, ◌<ℤ◌, Some, None, Option, unsigned_abs, refl}
+use Rattle.std.specs.declared.cmp.Ordering.TheVariants.{Less, Equal}
 use Rattle.std.proofs.Common.{sym, ap, subst, ◌∙◌, arith, le-leb}
 use mathlib.Core.HLevel.{is_prop→PathP}
 use Rattle.std.proofs.Math.Bridge.{le_prop}
 use Rattle.std.proofs.Math.IntN.{+ℤ_assoc, +ℤ_idl, +ℤ_idr}
-use Rattle.std.specs.Int.Signed.{lt_z}
 use Rattle.std.proofs.lemmas.Int.{ints}
 use Rattle.std.specs.Int.{int_max, int_min}
 use Rattle.std.specs.Ordering.{ordering_reverse}
 use Rattle.measure.specs.declared.sum.Sum.{Sum}
-use Rattle.measure.specs.Algebra.{Algebra, Laws, joined}
+use Rattle.measure.specs.Algebra.{Laws, joined}
 use Rattle.measure.specs.Sums.{nearest, clamped, compare_z, sum_algebra}
 
 pub sum_same : (a b : Sum) → a.value ≡ b.value → a ≡ b

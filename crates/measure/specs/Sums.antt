@@ -1,5 +1,5 @@
 -- The measure of whole numbers under addition.
-use Rattle.std.specs.Prelude.{ℕ, ◌-◌, ◌^◌, ◌≤◌, min, cond, ℤ, pos, negsuc, ◌+ℤ◌, int_lt, unsigned_abs}
+use Rattle.std.specs.Prelude.{◌-◌, ◌^◌, ◌≤◌, min, cond, ℤ, pos, negsuc, ◌+ℤ◌, int_lt, unsigned_abs}
 use Rattle.std.specs.declared.cmp.Ordering.TheVariants.{Less, Equal, Greater}
 use Rattle.std.specs.declared.cmp.Ordering.{Ordering}
 use Rattle.std.proofs.Common.{arith}

@@ -1,11 +1,11 @@
 -- The laws of a measure made of two.
-use Rattle.std.specs.Prelude.{◌≡◌, ℕ, ◌+◌, ◌^◌, ◌≤◌, max, ◌⊎◌, refl}
+use Rattle.std.specs.Prelude.{◌≡◌, ℕ, ◌⊎◌, refl}
 use Rattle.std.specs.declared.cmp.Ordering.TheVariants.{Less, Equal, Greater}
 use Rattle.std.specs.declared.cmp.Ordering.{Ordering}
 use Rattle.std.proofs.Common.{sym, ap, subst, ◌∙◌, inl, inr, ⊎_elim, arith}
 use Rattle.std.specs.Ordering.{ordering_reverse}
 use Rattle.measure.specs.declared.then.Then.{Then}
-use Rattle.measure.specs.Algebra.{Algebra, Laws, Before, Joinable}
+use Rattle.measure.specs.Algebra.{Algebra, Laws, Before}
 use Rattle.measure.specs.Piles.{chained, then_algebra}
 
 pub chained_equal : (o p : Ordering) → chained o p ≡ Equal → (o ≡ Equal) × (p ≡ Equal)

@@ -1,4 +1,6 @@
 // Measures of length: what the length of an arc can be, how lengths join along a walk, and how they compare.
+#![tactic(auto)]
+
 ghost use Rattle.std.specs.Prelude.{◌≡◌};
 ghost use Rattle.std.specs.Ordering.{is_lt};
 ghost use Rattle.measure.specs.Algebra.{Algebra, Laws, joined};
@@ -44,7 +46,7 @@ pub trait Measure: Copy {
 
 // Whether a is before b.
 pub fn before<M: Measure>(a: &M, b: &M) -> bool
-    ensures { result ≡ is_lt (algebra.compare a.now b.now) }
+    ensures { result ≡ is_lt (M.Measure.algebra.compare a.now b.now) }
 {
     matches!(a.compare(b), Ordering::Less)
 }

@@ -50,7 +50,7 @@ pub fn arc_ends(body: &[u8]) -> (usize, usize)
 
 // The length of an arc, from its columns; none where they make no length of this measure.
 pub fn arc_length<M: Columns>(body: &[u8], kind: Kind) -> Option<M>
-    ensures { result ≡ columnar.build (columns_of kind body.now) }
+    ensures { result ≡ M.Columns.columnar.build (columns_of kind body.now) }
 {
     if kind.width() == 1 {
         M::build(&[word_at(body, 4)])

@@ -1,4 +1,6 @@
 // The network file: its records, which are parts of its bytes, and the reader that judges a file.
+#![tactic(auto)]
+
 mod arcs;
 mod checking;
 mod fields;

@@ -1,3 +1,5 @@
 // Files that are refused, and where.
+#![tactic(auto)]
+
 #[cfg(test)]
 mod tests;

@@ -1,4 +1,6 @@
 // Reads a written list of calls, makes them on a new session and prints the log.
+#![tactic(auto)]
+
 use columns::Columns;
 use journal::{Call, Fault, replay};
 use measure::{Reversed, Sum, Then};

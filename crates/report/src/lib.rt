@@ -1,4 +1,6 @@
 // The lines that a report prints, each by its exact bytes.
+#![tactic(auto)]
+
 mod lines;
 mod refusals;
 mod texts;

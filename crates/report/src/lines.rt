@@ -26,7 +26,7 @@ fn empty_row_line(heap: Global, node: usize) -> Result<String, AllocError>
 
 // The row of a node, as `node 2 lengths 3 4 5` or `node 2 lengths none`.
 pub fn row_line<M: Columns>(heap: Global, node: usize, row: &[M]) -> Result<String, AllocError>
-    ensures { columnar.width < 2 ^ 64 → IfOk result (λ t. string_bytes t ≡ codes "node " ++ (decimal node ++ (codes " lengths" ++ row_listed M.Columns.columnar row.now))) }
+    ensures { M.Columns.columnar.width < 2 ^ 64 → IfOk result (λ t. string_bytes t ≡ codes "node " ++ (decimal node ++ (codes " lengths" ++ row_listed M.Columns.columnar row.now))) }
 {
     if row.is_empty() {
         return empty_row_line(heap, node);
@@ -48,7 +48,7 @@ pub fn path_line<M: Columns>(
     length: &M,
     nodes: &[usize],
 ) -> Result<String, AllocError>
-    ensures { columnar.width < 2 ^ 64 → IfOk result (λ t. string_bytes t ≡ length_text M.Columns.columnar length.now ++ (codes " :" ++ nodes_listed nodes.now)) }
+    ensures { M.Columns.columnar.width < 2 ^ 64 → IfOk result (λ t. string_bytes t ≡ length_text M.Columns.columnar length.now ++ (codes " :" ++ nodes_listed nodes.now)) }
 {
     let shown = column_text(heap, length)?;
     let visited = nodes_text(heap, nodes)?;

@@ -6,7 +6,7 @@ use std::alloc::{AllocError, Global};
 
 // Each length behind a space.
 pub(crate) fn lengths_text<M: Columns>(heap: Global, row: &[M]) -> Result<String, AllocError>
-    ensures { columnar.width < 2 ^ 64 → IfOk result (λ t. string_bytes t ≡ lengths_listed M.Columns.columnar row.now) }
+    ensures { M.Columns.columnar.width < 2 ^ 64 → IfOk result (λ t. string_bytes t ≡ lengths_listed M.Columns.columnar row.now) }
 {
     let mut text = String::new(heap);
     for value in row {

@@ -1,3 +1,2 @@
 pub mod Legs
-pub mod Orders
 pub mod Pieces

@@ -2,3 +2,4 @@ pub mod Kinds
 pub mod Ranking
 pub mod Reading
 pub mod Total
+pub mod Orders

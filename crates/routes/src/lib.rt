@@ -1,4 +1,6 @@
 // Routes of several legs: how long each is, and which comes first.
+#![tactic(auto)]
+
 mod kind;
 mod lines;
 mod ranking;

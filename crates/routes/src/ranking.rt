@@ -1,11 +1,9 @@
 ghost use Rattle.std.specs.Prelude.{◌≡◌, Some, refl};
 ghost use Rattle.std.specs.Ordering.{is_eq};
 ghost use Rattle.std.specs.List.Sorted.{IsPermutation};
+ghost use Rattle.std.specs.Cmp.{eq_by_cmp_equiv, partial_equiv_from_equiv, partial_order_from_agreeing_total};
 ghost use Rattle.routes.specs.Ranking.{route_compare, InOrder};
-ghost use Rattle.std.specs.Cmp.Rules.{comparing};
-ghost use Rattle.std.proofs.Common.{rules};
-ghost use Rattle.std.specs.Cmp.{partial_order_from_agreeing_total};
-ghost use Rattle.std.specs.Cmp as Keys;
+ghost use Rattle.routes.specs.Orders.{total_order};
 
 use measure::Measure;
 use std::cmp::Ordering;
@@ -21,11 +19,11 @@ pub struct Route<M> {
 impl<M: Measure> Ord for Route<M> {
     ghost cmp = { λ a b. route_compare M.Measure.algebra a b };
 
-    ghost total = { Prim.search (comparing, rules) };
+    ghost total = { total_order M.Measure.lawful };
 
-    ghost matches_partial_cmp = { Prim.search (comparing, rules) };
+    ghost matches_partial_cmp = { λ _ _. refl };
 
-    ghost matches_eq = { Prim.search (comparing, rules) };
+    ghost matches_eq = { λ _ _. refl };
 
     fn cmp(&self, other: &Route<M>) -> Ordering {
         match self.length.compare(&other.length) {
@@ -38,7 +36,7 @@ impl<M: Measure> Ord for Route<M> {
 impl<M: Measure> PartialOrd for Route<M> {
     ghost partial_cmp = { λ a b. Some (route_compare M.Measure.algebra a b) };
 
-    ghost laws = { partial_order_from_agreeing_total (λ a b. route_compare M.Measure.algebra a b) (Prim.search (comparing, rules)) (λ _ _. refl) (Prim.search (comparing, rules)) };
+    ghost laws = { partial_order_from_agreeing_total (route_compare M.Measure.algebra) (total_order M.Measure.lawful) (λ _ _. refl) (λ _ _. refl) };
 
     fn partial_cmp(&self, other: &Route<M>) -> Option<Ordering> {
         Some(self.cmp(other))
@@ -48,7 +46,7 @@ impl<M: Measure> PartialOrd for Route<M> {
 impl<M: Measure> PartialEq for Route<M> {
     ghost eq = { λ a b. is_eq (route_compare M.Measure.algebra a b) };
 
-    ghost laws = { Keys.partial_equiv_from_equiv (Prim.search (comparing, rules)) };
+    ghost laws = { partial_equiv_from_equiv (eq_by_cmp_equiv (total_order M.Measure.lawful)) };
 
     fn eq(&self, other: &Route<M>) -> bool {
         matches!(self.cmp(other), Ordering::Equal)
@@ -56,20 +54,20 @@ impl<M: Measure> PartialEq for Route<M> {
 }
 
 impl<M: Measure> Eq for Route<M> {
-    ghost laws = { Prim.search (comparing, rules) };
+    ghost laws = { eq_by_cmp_equiv (total_order M.Measure.lawful) };
 }
 
 // Puts the routes into order, the first before the next by length, and among equal lengths by number.
 pub fn rank<M: Measure>(routes: &mut Vec<Route<M>>)
     ensures same { IsPermutation routes.old.items routes.new.items }
-    ensures order { InOrder algebra routes.new.items }
+    ensures order { InOrder M.Measure.algebra routes.new.items }
 {
-    routes.sort();
+    routes.sort_unstable();
 }
 
 // Whether two routes are equally long.
 pub fn equally_long<M: Measure>(a: &Route<M>, b: &Route<M>) -> bool
-    ensures { result ≡ is_eq (algebra.compare a.now.length b.now.length) }
+    ensures { result ≡ is_eq (M.Measure.algebra.compare a.now.length b.now.length) }
 {
     matches!(a.length.compare(&b.length), Ordering::Equal)
 }

@@ -26,7 +26,7 @@ fn numbers(heap: Global, text: &str) -> Result<Option<Vec<i64>>, AllocError>
 
 // The length whose columns a text writes, as `2/7`; none where the text writes no length of this measure.
 pub fn read_leg<M: Columns>(heap: Global, text: &str) -> Result<Option<M>, AllocError>
-    ensures { IfOk result (λ o. MatchOption o ((a : M) → Reads text.now (columnar.tell a) → ⊥) (λ a. Reads text.now (columnar.tell a))) }
+    ensures { IfOk result (λ o. MatchOption o ((a : M) → Reads text.now (M.Columns.columnar.tell a) → ⊥) (λ a. Reads text.now (M.Columns.columnar.tell a))) }
 {
     match numbers(heap, text)? {
         Some(columns) => Ok(M::build(columns.as_slice())),

@@ -5,7 +5,7 @@ use measure::Measure;
 
 // Null joined with the legs' lengths from the first to the last; none where a join on the way is absent.
 pub fn route_length<M: Measure>(legs: &[M]) -> Option<M>
-    ensures { result ≡ total algebra legs.now }
+    ensures { result ≡ total M.Measure.algebra legs.now }
 {
     let mut length = M::null();
     for leg in legs {

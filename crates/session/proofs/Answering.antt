@@ -1,24 +1,21 @@
 -- A session's solve is the solve of its tables.
-use Rattle.std.proofs.Common.{◌≡◌, ℕ, zero, suc, ◌+◌, ◌-◌, ◌*◌, ◌<◌, ◌≤◌, min, Bool, true, false, cond, ◌||◌, eqb, ltb, List, length, take, drop, Some, None, Ok, Err, Option, Result, sym, refl, ap, ◌∙◌, subst, arith}
+use Rattle.std.proofs.Common.{◌≡◌, ℕ, ◌-◌, ◌≤◌, min, List, length, take, Some, None, Ok, Err, Option, Result, sym, refl, ap, ◌∙◌, subst, arith}
 use Rattle.std.proofs.lemmas.Bool.Decides.{nat_tests}
 use Rattle.measure.specs.Algebra.{Algebra, Laws}
 use Rattle.sweeps.specs.declared.Arc.{Arc}
 use Rattle.sweeps.specs.declared.Solved.{Solved}
 use Rattle.sweeps.specs.declared.order.Order.{Order}
 use Rattle.sweeps.specs.declared.refusal.Refusal.{Refusal}
-use Rattle.sweeps.specs.declared.refusal.Refusal.TheVariants.{NegativeCircuit}
 use Rattle.walks.specs.Circuits.{NegativeCircuit as NegativeReached, NullCircuit as NullReached}
 use Rattle.walks.specs.Solves.{settled, outcome}
 use Rattle.walks.specs.Theorems.{Within}
 use Rattle.walks.proofs.Solving.{refusals}
-use Rattle.sweeps.specs.Tables.{network, Cleared, Whether}
+use Rattle.sweeps.specs.Tables.{Whether}
 use Rattle.sweeps.specs.Answers.{solve_verdict, Answered, Meant, Solves}
 use Rattle.session.specs.declared.stages.Draft.{Draft}
-use Rattle.session.specs.declared.stages.Settled.{Settled}
 use Rattle.session.specs.Nets.{Net, listed}
 use Rattle.session.specs.Drafts.{DraftHolds}
-use Rattle.session.specs.Settled.{SettledHolds}
-use Rattle.session.specs.Solving.{begin_verdict, Answer, RowsOnly, Given, SolveDone, Accepted, Declined, SolveMeant}
+use Rattle.session.specs.Solving.{begin_verdict, Answer, Given, SolveDone, SolveMeant}
 
 -- for as many nodes as a session has, the solve's own test of their number never refuses
 same_verdict : (n k s v c : ℕ) → 1 ≤ n → n ≤ 1000 → solve_verdict n k s v c ≡ begin_verdict n k s v c

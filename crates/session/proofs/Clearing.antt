@@ -1,5 +1,5 @@
 -- A table whose first cells are cleared.
-use Rattle.std.proofs.Common.{◌≡◌, ℕ, zero, suc, ◌+◌, ◌-◌, ◌<◌, ◌≤◌, min, List, [], ◌∷◌, ◌++◌, length, take, drop, replicate, sym, refl, ap, ◌∙◌, subst, append-nil, arith, drop_of_length-le, length-take, take_all}
+use Rattle.std.proofs.Common.{◌≡◌, ℕ, ◌-◌, ◌<◌, min, List, ◌++◌, length, take, drop, replicate, ap, ◌∙◌, append-nil, arith, drop_of_length-le, length-take, take_all}
 use native.Mathlib.Decide.{dec_lt}
 use lib.ListN.{length-replicate}
 use borrow.Rule.Slice.PartMut.{post_of}

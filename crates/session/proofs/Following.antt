@@ -1,22 +1,21 @@
 -- A trace and its tables hold what it has handed out.
-use Rattle.std.proofs.Common.{◌≡◌, ℕ, ◌-◌, ◌*◌, ◌≤◌, min, Bool, true, false, List, [], ◌∷◌, reverse, length, take, Some, None, Ok, Err, Option, Result, sym, refl, ap, ◌∙◌, subst, arith}
+use Rattle.std.proofs.Common.{◌≡◌, ℕ, ◌-◌, ◌*◌, ◌≤◌, min, false, List, [], length, take, Some, None, Ok, Err, Option, Result, sym, refl, ap, ◌∙◌, subst, arith}
 use Rattle.std.proofs.lemmas.Bool.Decides.{nat_tests}
 use Rattle.measure.specs.Algebra.{Algebra}
 use Rattle.walks.specs.Circuits.{NullCircuit as NullReached}
 use Rattle.walks.specs.Rows.{Table}
-use Rattle.walks.specs.Paths.{PathTo, Since, Next}
 use Rattle.sweeps.specs.declared.Arc.{Arc}
 use Rattle.sweeps.specs.declared.refusal.Refusal.{Refusal}
 use Rattle.sweeps.specs.Tables.{Whether}
 use Rattle.tracing.specs.declared.Step.{Step}
 use Rattle.tracing.specs.declared.Cursor.{Cursor}
 use Rattle.tracing.specs.Labels.{Tables, tables}
-use Rattle.tracing.specs.Standing.{new_cursor, newest, Standing, Framed, Meant, Nexted}
+use Rattle.tracing.specs.Standing.{new_cursor, Standing, Framed, Meant, Nexted}
 use Rattle.session.specs.declared.stages.Settled.{Settled}
 use Rattle.session.specs.declared.stages.Trace.{Trace}
 use Rattle.session.specs.Nets.{Net, listed}
 use Rattle.session.specs.Settled.{SettledHolds}
-use Rattle.session.specs.Traces.{trace_verdict, TraceDone, TraceMeant, TraceHolds, PathOnly, NextDone, PathHanded, PathsOver, NextMeant}
+use Rattle.session.specs.Traces.{trace_verdict, TraceDone, TraceMeant, TraceHolds, PathOnly, NextDone, NextMeant}
 
 module _ {V : Type 0} (m : Algebra V) (trace : Trace) (work : List Step) (path : List ℕ) (c' : Cursor) (work' : List Step) (path' : List ℕ) where
   -- the trace after a next

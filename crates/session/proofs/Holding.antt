@@ -1,15 +1,15 @@
 -- A draft and its tables hold the network that its calls build.
-use Rattle.std.proofs.Common.{◌≡◌, ℕ, zero, suc, ◌+◌, ◌-◌, ◌^◌, ◌<◌, ◌≤◌, Bool, true, false, cond, ◌||◌, eqb, ltb, leb, List, [], ◌∷◌, ◌++◌, length, get_or, take, set, Some, None, Ok, Err, Option, Result, sym, refl, ap, ◌∙◌, subst, arith, length-append, length-set, get_or-take}
+use Rattle.std.proofs.Common.{◌≡◌, ℕ, zero, suc, ◌+◌, ◌-◌, ◌^◌, ◌<◌, ◌≤◌, Bool, List, [], ◌∷◌, ◌++◌, length, get_or, take, set, Some, None, Ok, Err, Option, Result, sym, refl, ap, ◌∙◌, subst, arith, length-append, length-set, get_or-take}
 use lib.Seq.{take-set-lt}
 use Rattle.std.proofs.lemmas.List.{take_more_set}
 use Rattle.std.proofs.lemmas.Bool.Decides.{nat_tests}
 use Rattle.measure.specs.Algebra.{Algebra}
 use Rattle.sweeps.specs.declared.Arc.{Arc}
 use Rattle.sweeps.specs.declared.refusal.Refusal.{Refusal}
-use Rattle.sweeps.specs.Tables.{no_arc, arc_at, InOrder}
+use Rattle.sweeps.specs.Tables.{no_arc, arc_at}
 use Rattle.session.specs.declared.stages.Draft.{Draft}
-use Rattle.session.specs.Nets.{Net, new_arc, marked, last_end, add_arc, mark_arc, relength_arc, listed}
-use Rattle.session.specs.Drafts.{outside, judged, DraftHolds, put_verdict, PutDone, PutWritten, with_put, relength_verdict, RelengthDone, RelengthWritten, with_length, MarkDone, MarkWritten, with_mark}
+use Rattle.session.specs.Nets.{Net, new_arc, marked}
+use Rattle.session.specs.Drafts.{judged, DraftHolds, put_verdict, PutDone, with_put, relength_verdict, RelengthDone, with_length, MarkDone, with_mark}
 use Rattle.session.proofs.Ordered.{added, remarked, last_remarked, relengthed, last_added}
 
 -- an accepted answer comes from no reason against it

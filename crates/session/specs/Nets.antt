@@ -1,9 +1,9 @@
 -- Networks as calls build them: the arcs in the order of their numbers, with their lengths.
-use Rattle.std.specs.Prelude.{◌≡◌, ℕ, ◌-◌, Bool, true, false, List, [], ◌∷◌, ◌++◌, length, slice_set}
+use Rattle.std.specs.Prelude.{ℕ, ◌-◌, Bool, true, List, [], ◌∷◌, ◌++◌, length, slice_set}
 use Rattle.measure.specs.Algebra.{Algebra}
 use Rattle.walks.specs.Networks.{Network}
 use Rattle.sweeps.specs.declared.Arc.{Arc}
-use Rattle.sweeps.specs.Tables.{network, no_arc, arc_at}
+use Rattle.sweeps.specs.Tables.{network, arc_at}
 
 pub record Net (V : Type 0) : Type 0 where
   pub nodes : ℕ

@@ -1,5 +1,5 @@
 -- What a settled session holds, answers and gives back.
-use Rattle.std.specs.Prelude.{◌≡◌, ℕ, ◌-◌, ◌*◌, min, Bool, true, cond, List, length, take, drop, replicate, is_ok, Some, None, Ok, Err, Option, Result}
+use Rattle.std.specs.Prelude.{◌≡◌, ℕ, ◌-◌, ◌*◌, min, true, cond, List, length, take, drop, is_ok, Some, None, Err, Option, Result}
 use Rattle.std.specs.List.{slice_get}
 use Rattle.measure.specs.Algebra.{Algebra}
 use Rattle.walks.specs.Circuits.{NegativeCircuit as NegativeReached, NullCircuit as NullReached}
@@ -9,7 +9,6 @@ use Rattle.sweeps.specs.declared.Arc.{Arc}
 use Rattle.sweeps.specs.declared.refusal.Refusal.{Refusal}
 use Rattle.sweeps.specs.declared.refusal.Refusal.TheVariants.{NoSuchNode, NoSuchPlace}
 use Rattle.sweeps.specs.Tables.{RowsHeld, Whether, Cleared}
-use Rattle.session.specs.declared.stages.Draft.{Draft}
 use Rattle.session.specs.declared.stages.Settled.{Settled}
 use Rattle.session.specs.Nets.{Net, listed}
 use Rattle.session.specs.Drafts.{outside, judged, DraftHolds}

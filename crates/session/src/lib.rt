@@ -1,4 +1,6 @@
 // Sessions: a draft takes arcs, and a settled session answers lengths. The tables are the caller's and are lent to each call.
+#![tactic(auto)]
+
 mod draft;
 mod settled;
 mod solving;

@@ -1,14 +1,14 @@
 -- The rows that the code makes are those of the definition.
-use Rattle.std.proofs.Common.{◌≡◌, ℕ, zero, suc, ◌+◌, ◌-◌, ◌*◌, ◌^◌, ◌<◌, ◌≤◌, Bool, true, false, cond, ◌||◌, ltb, ◌⊎◌, List, [], ◌∷◌, length, take, Some, None, Ordering, Less, Equal, Greater, sym, refl, ap, ◌∙◌, subst, inl, inr, arith}
+use Rattle.std.proofs.Common.{◌≡◌, ℕ, zero, suc, ◌+◌, ◌*◌, ◌^◌, ◌<◌, ◌≤◌, Bool, true, false, cond, ◌||◌, ltb, ◌⊎◌, List, [], ◌∷◌, length, take, Some, None, Ordering, Less, Equal, Greater, sym, refl, ap, ◌∙◌, subst, inl, inr, arith}
 use Rattle.std.proofs.lemmas.Bool.{cases_eq, ltb-true, ltb-false, le-leb, true≢false, false≢true}
 use Rattle.measure.specs.Algebra.{Algebra, Laws, Before, Joinable}
-use Rattle.walks.specs.Networks.{Network, Open, WellFormed}
+use Rattle.walks.specs.Networks.{Network, WellFormed}
 use Rattle.walks.specs.Rows.{Table, In, Covers, FirstOf}
-use Rattle.walks.specs.Method.{choose, place, uses, put, place_all, offer, gather, work}
+use Rattle.walks.specs.Method.{choose, place, uses, place_all, offer, gather, work}
 use Rattle.walks.specs.Runs.{Joined}
 use Rattle.walks.proofs.Orders.{never, before_not, greater}
 use Rattle.walks.proofs.Placing.{place_short, place_covers, place_keeps}
-use Rattle.walks.proofs.Method.{Neat, Upto, uses_yes, first_upto, work_first, work_neat, put_here, put_there}
+use Rattle.walks.proofs.Method.{Neat, Upto, uses_yes, first_upto, work_first, work_neat, put_there}
 use Rattle.sweeps.specs.Tables.{row_of}
 use Rattle.sweeps.specs.Places.{fresh}
 use Rattle.sweeps.specs.Nodes.{Marked, stepped, carried, worked, over, node_row}

@@ -1,5 +1,5 @@
 -- What working on a node keeps from arc to arc.
-use Rattle.std.proofs.Common.{◌≡◌, ℕ, zero, suc, ◌+◌, ◌-◌, ◌*◌, ◌<◌, ◌≤◌, Bool, true, false, cond, ◌&&◌, eqb, ◌⊎◌, List, length, get_or, take, drop, sym, refl, ap, ◌∙◌, subst, inl, inr, mul-le-mul_right, add-one, arith}
+use Rattle.std.proofs.Common.{◌≡◌, ℕ, zero, suc, ◌+◌, ◌-◌, ◌<◌, ◌≤◌, Bool, true, false, cond, ◌&&◌, eqb, List, get_or, take, drop, sym, refl, ap, ◌∙◌, subst, inl, inr, mul-le-mul_right, add-one, arith}
 use Rattle.std.proofs.lemmas.List.{drop-take, take-take, drop-drop}
 use Rattle.std.proofs.lemmas.Bool.{cases_eq, cases_lt, eq-eqb, ne_eqb, and_right}
 use Rattle.measure.specs.Algebra.{Algebra, Laws}
@@ -8,7 +8,7 @@ use Rattle.walks.specs.Rows.{Ascending}
 use Rattle.walks.specs.Method.{takes, uses}
 use Rattle.sweeps.specs.declared.Arc.{Arc}
 use Rattle.sweeps.specs.Tables.{network, InOrder, start_of, cells, count_of, row_of}
-use Rattle.sweeps.specs.Nodes.{Indexed, Known, Shape, TwoRows, Marked, worked, RowIs, ArcWorked, node_row, NodeWorked}
+use Rattle.sweeps.specs.Nodes.{Indexed, Known, Shape, TwoRows, Marked, worked, RowIs, ArcWorked, node_row}
 use Rattle.sweeps.proofs.Working.{row_below, apart_cases, worked_up}
 
 pub formed_of : {V : Type 0} (m : Algebra V) (net : Network V) → InOrder m net → WellFormed m net

@@ -1,5 +1,5 @@
 -- What working on one node after another keeps.
-use Rattle.std.proofs.Common.{◌≡◌, ℕ, ◌+◌, ◌-◌, ◌*◌, ◌^◌, ◌<◌, ◌≤◌, Bool, true, false, ◌⊎◌, List, length, get_or, take, drop, set, replicate, sym, refl, ap, ◌∙◌, subst, inl, inr, arith, length-set}
+use Rattle.std.proofs.Common.{◌≡◌, ℕ, ◌+◌, ◌-◌, ◌^◌, ◌≤◌, Bool, true, false, ◌⊎◌, List, length, get_or, take, drop, set, replicate, sym, refl, ap, ◌∙◌, subst, inl, inr, arith, length-set}
 use Rattle.std.proofs.lemmas.List.{get_or-set_same, get_or-set_other, drop-drop, drop-replicate}
 use Rattle.std.proofs.lemmas.Bool.{cases_eq}
 use Rattle.measure.specs.Algebra.{Algebra, Laws}
@@ -7,7 +7,7 @@ use Rattle.walks.specs.Networks.{Network, WellFormed}
 use Rattle.walks.specs.Rows.{Table, Ascending}
 use Rattle.walks.specs.Method.{put, gather, work}
 use Rattle.walks.proofs.Method.{put_here, put_there}
-use Rattle.sweeps.specs.Tables.{cells, count_of, row_of}
+use Rattle.sweeps.specs.Tables.{cells, row_of}
 use Rattle.sweeps.specs.Nodes.{Marked, Shape, RowIs, node_row, NodeWorked}
 use Rattle.sweeps.specs.Passes.{RowsFill, Ready, Gone, Tells}
 use Rattle.sweeps.proofs.Noding.{other_cells}

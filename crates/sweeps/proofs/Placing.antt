@@ -1,7 +1,7 @@
 -- What placing a length keeps from cell to cell.
-use Rattle.std.proofs.Common.{◌≡◌, ℕ, zero, suc, ◌+◌, ◌-◌, ◌<◌, ◌≤◌, min, Bool, true, false, ◌&&◌, ◌||◌, ltb, ◌⊎◌, List, [], ◌∷◌, ◌++◌, length, get_or, take, drop, set, Ordering, Less, Equal, Greater, sym, refl, ap, ◌∙◌, subst, inl, inr, append_assoc, arith, length-append, length-set, take-append-drop, length-take}
+use Rattle.std.proofs.Common.{◌≡◌, ℕ, zero, suc, ◌+◌, ◌-◌, ◌<◌, ◌≤◌, Bool, true, false, ◌&&◌, ◌||◌, ltb, List, [], ◌∷◌, ◌++◌, length, get_or, take, drop, set, Ordering, Less, Equal, Greater, sym, refl, ap, ◌∙◌, subst, inl, inr, append_assoc, arith, length-append, length-set, take-append-drop, length-take}
 use lib.Seq.{take-append-add, drop-append-le}
-use Rattle.std.proofs.lemmas.List.{drop-drop, take_more, take_more_set, drop_more, get_or-take, drop-set-lt, drop_all, take_all, take_at, take-take, get_or_default}
+use Rattle.std.proofs.lemmas.List.{take_more, take_more_set, drop_more, get_or-take, drop-set-lt, drop_all, take_all, take_at, take-take, get_or_default}
 use Rattle.std.proofs.lemmas.Bool.{lt-ltb, le-ltb, cases_eq, cases_lt, and_parts, cond_both, ltb-true, true≢false, false≢true}
 use Rattle.std.specs.Ordering.{ordering_reverse}
 use Rattle.measure.specs.Algebra.{Algebra, Laws, Before}

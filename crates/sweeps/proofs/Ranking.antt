@@ -1,12 +1,12 @@
 -- What ranking the nodes keeps.
-use Rattle.std.proofs.Common.{◌≡◌, ℕ, zero, suc, ◌+◌, ◌-◌, ◌*◌, ◌<◌, ◌≤◌, Bool, true, ltb, ◌⊎◌, List, [], ◌∷◌, length, get_or, set, replicate, Some, None, sym, refl, ap, ◌∙◌, subst, inl, inr, mul-le-mul_right, add-one, arith, length-set}
+use Rattle.std.proofs.Common.{◌≡◌, ℕ, zero, suc, ◌+◌, ◌-◌, ◌<◌, ◌≤◌, ltb, List, [], ◌∷◌, length, get_or, set, replicate, Some, None, sym, refl, ap, ◌∙◌, subst, inl, inr, mul-le-mul_right, add-one, arith, length-set}
 use Rattle.std.proofs.lemmas.List.{get_or-set_same, get_or-set_other, get_or_read}
 use Rattle.std.proofs.lemmas.Bool.{cases_eq, lt-ltb, cond-true}
 use Rattle.measure.specs.Algebra.{Algebra}
 use Rattle.walks.specs.Networks.{Network}
 use Rattle.sweeps.specs.Tables.{start_of, count_of, InOrder}
 use Rattle.sweeps.specs.Nodes.{Shape}
-use Rattle.sweeps.specs.Ranks.{left, first_length_of, rank_of, Blocked, Free, Climbs, Stuck, Scanned}
+use Rattle.sweeps.specs.Ranks.{left, first_length_of, Blocked, Free, Climbs, Stuck, Scanned}
 use Rattle.sweeps.proofs.Working.{row_end}
 
 pub first_in : (n k size j : ℕ) (counts : List ℕ) → Shape n k size counts → 1 ≤ k → 1 ≤ j → j ≤ n → start_of k j < size

@@ -1,16 +1,15 @@
 -- What the passes of a solve keep.
-use Rattle.std.proofs.Common.{◌≡◌, ℕ, zero, suc, ◌+◌, ◌-◌, ◌*◌, ◌^◌, ◌<◌, ◌≤◌, Bool, true, false, not, ◌⊎◌, List, [], ◌∷◌, length, get_or, take, drop, set, replicate, sym, refl, ap, ◌∙◌, subst, inl, inr, mul-le-mul_right, mul-le-mul, add-one, arith, length-set}
+use Rattle.std.proofs.Common.{◌≡◌, ℕ, suc, ◌+◌, ◌-◌, ◌*◌, ◌^◌, ◌<◌, ◌≤◌, Bool, true, false, not, ◌⊎◌, List, [], ◌∷◌, length, get_or, take, drop, set, replicate, sym, refl, ap, ◌∙◌, subst, inl, inr, mul-le-mul_right, mul-le-mul, add-one, arith, length-set}
 use Rattle.std.proofs.lemmas.List.{get_or-set_same, get_or-set_other, get_or-replicate, get_or_past, length-replicate, drop-replicate, take-replicate}
 use Rattle.std.proofs.lemmas.Bool.{cases_eq, cases_lt}
 use Rattle.measure.specs.Algebra.{Algebra, Laws}
 use Rattle.walks.specs.Networks.{Network, WellFormed}
 use Rattle.walks.specs.Method.{odd, put, pass, rows}
 use Rattle.walks.specs.Runs.{Run, Unchanged}
-use Rattle.walks.specs.Solves.{settled, refused, outcome}
+use Rattle.walks.specs.Solves.{refused, outcome}
 use Rattle.walks.proofs.Method.{put_here, put_there, rows_run}
 use Rattle.walks.proofs.Ends.{is_settled, is_refused}
-use Rattle.sweeps.specs.Tables.{start_of, cells, count_of, Cleared}
-use Rattle.sweeps.specs.Nodes.{Shape}
+use Rattle.sweeps.specs.Tables.{start_of, cells, Cleared}
 use Rattle.sweeps.specs.Passes.{Bounds, RowsFill, Ready, Gone, Passed, Tells, AtRest}
 use Rattle.sweeps.proofs.Working.{row_end}
 

@@ -1,5 +1,5 @@
 -- Working on a node, in the tables.
-use Rattle.std.specs.Prelude.{◌≡◌, ℕ, zero, suc, ◌+◌, ◌-◌, ◌*◌, ◌^◌, ◌<◌, ◌≤◌, Bool, true, false, cond, ◌||◌, List, length, take, drop, Some, None, fold, nat_lt, slice_index, slice_set}
+use Rattle.std.specs.Prelude.{◌≡◌, ℕ, zero, suc, ◌+◌, ◌-◌, ◌*◌, ◌^◌, ◌<◌, ◌≤◌, Bool, false, cond, ◌||◌, List, length, take, drop, Some, None, fold, nat_lt, slice_index, slice_set}
 use Rattle.measure.specs.Algebra.{Algebra, joined}
 use Rattle.walks.specs.Networks.{Network}
 use Rattle.walks.specs.Rows.{Ascending}

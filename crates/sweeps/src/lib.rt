@@ -1,4 +1,6 @@
 // The solve: orders, arc records, refusals, and sweeps over the caller's tables.
+#![tactic(auto)]
+
 mod firsts;
 mod inspection;
 mod nodes;

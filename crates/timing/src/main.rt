@@ -1,4 +1,6 @@
 // Solves two large networks and prints how many passes each takes; with the argument `clock` also how long.
+#![tactic(auto)]
+
 use anyhow::anyhow;
 use measure::{Measure, Sum};
 use session::{Arc, Draft, Order};

@@ -33,6 +33,7 @@ pub fn further<M: Measure>(lent: Lent<M>, node: usize, place: usize, above: usiz
         None => return None,
         Some(x) => x,
     };
+    let lengths = lent.lengths;
     let first = before_node(lent.arcs, node);
     let from = if above < first { first } else { above };
     for i in from..lent.arcs.len() {
@@ -40,7 +41,7 @@ pub fn further<M: Measure>(lent: Lent<M>, node: usize, place: usize, above: usiz
         if arc.end as usize != node {
             return None;
         }
-        if let Some(q) = link(lent, arc, lent.lengths[i], node, here) {
+        if let Some(q) = link(lent, arc, lengths[i], node, here) {
             return Some(Step {
                 arc: i + 1,
                 place: q,

@@ -1,4 +1,6 @@
 // The paths to a node, one after another, read out of a settled session's tables.
+#![tactic(auto)]
+
 mod blocks;
 mod calls;
 mod labels;

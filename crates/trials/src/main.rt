@@ -1,4 +1,6 @@
 // Networks drawn at random, solved by the operator and by a second solver, and every answer compared.
+#![tactic(auto)]
+
 use columns::Columns;
 use measure::{Reversed, Sum, Then};
 

@@ -1,5 +1,5 @@
 -- The laws of a measure with before and after exchanged.
-use Rattle.std.proofs.Common.{◌≡◌, sym, ap}
+use Rattle.std.proofs.Common.{sym, ap}
 use Rattle.measure.specs.declared.reversed.Reversed.{Reversed}
 use Rattle.measure.specs.Algebra.{Algebra, Laws}
 use Rattle.measure.specs.Piles.{reversed_algebra}

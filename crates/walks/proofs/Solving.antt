@@ -1,5 +1,5 @@
 -- Settled rows, refusals and the number of passes.
-use Rattle.std.proofs.Common.{◌≡◌, ℕ, zero, suc, ◌+◌, ◌*◌, ◌<◌, ◌≤◌, ◌⊎◌, List, [], ◌∷◌, take, sym, refl, ◌∙◌, subst, inl, inr, mul-le-mul, arith, length-take}
+use Rattle.std.proofs.Common.{◌≡◌, ℕ, zero, suc, ◌+◌, ◌*◌, ◌<◌, ◌≤◌, List, [], ◌∷◌, take, sym, refl, ◌∙◌, subst, inl, inr, mul-le-mul, arith, length-take}
 use native.Mathlib.Decide.{dec_le, dec_lt}
 use Rattle.measure.specs.Algebra.{Algebra, Laws, Before, Joinable}
 use Rattle.walks.specs.Networks.{Network, Open}

@@ -1,5 +1,5 @@
 -- NullCircuit circuits are the circuits of tight arcs.
-use Rattle.std.proofs.Common.{◌≡◌, ℕ, suc, ◌+◌, ◌*◌, ◌^◌, ◌≤◌, List, [], ◌∷◌, ◌++◌, length, sym, refl, ap, ◌∙◌, subst, inl, inr, append_assoc, arith}
+use Rattle.std.proofs.Common.{◌≡◌, ℕ, suc, ◌+◌, ◌*◌, ◌^◌, ◌≤◌, List, [], ◌∷◌, ◌++◌, sym, refl, ap, ◌∙◌, subst, inl, inr, append_assoc, arith}
 use Rattle.measure.specs.Algebra.{Algebra, Laws, Before, Joinable}
 use Rattle.walks.specs.Networks.{Network, Open, WellFormed}
 use Rattle.walks.specs.Walks.{Walk, walk_length, weight, Counted}

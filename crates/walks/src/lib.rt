@@ -1,6 +1,8 @@
 // Networks, walks, rows and sweeps: what a solve computes, and what its rows mean.
 //
 // The definitions stand in specs/. The functions here compute nothing: each one's contract is a theorem, for every measure.
+#![tactic(auto)]
+
 ghost use Rattle.walks.specs.Theorems.{MethodInWords, SettledExact, RefusedExactly, FewPasses, JoinsPresent, RowsBegin, SolvesBegin, FirstsRest};
 ghost use Rattle.walks.specs.Nulls.{NullsTold};
 ghost use Rattle.walks.specs.Paths.{PathsOrdered, PathsInRows};

@@ -5,7 +5,7 @@ use Rattle.answers.proofs.paths.path_nodes.Goals as goal
 
 pub loop-number-preserved : goal.loop-number-preserved
 loop-number-preserved c =
-    nodes_more c.args.source c.args.arcs.now c.args.path.now c.loop-number.number-index (omega arith) c.in-ok-push-2.ensures.items c.loop-number.invariant c.arc-end.ensures
+    nodes_more c.args.source c.args.arcs.now c.args.path.now c.loop-number.number-index (omega arith) c.in_ok-push-2.ensures.items c.loop-number.invariant c.arc_end.ensures
 
 pub returns : goal.returns
 returns c =

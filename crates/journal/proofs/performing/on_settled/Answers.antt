@@ -12,13 +12,13 @@ returns-in-Length g c = λ arcs lengths.
 pub returns-in-Ok : goal.returns-in-Ok
 returns-in-Ok g c = λ arcs lengths.
     taken_as _ _ _ _ _ _ _ _ _ c.in-Trace.is refl
-    (opened_taken _ c.args.settled arcs lengths c.args.values.now c.args.counts.now c.args.work.now c.args.path.now _ _ _ c.min-most-work.result c.min-most-path.result c.min-most-work.ensures c.min-most-path.ensures
+    (opened_taken _ c.args.settled arcs lengths c.args.values.now c.args.counts.now c.args.work.now c.args.path.now _ _ _ c.min-most_work.result c.min-most_path.result c.min-most_work.ensures c.min-most_path.ensures
     c.in-Ok.trace c.in-Ok.ensures)
 
 pub returns-in-Err : goal.returns-in-Err
 returns-in-Err g c = λ arcs lengths.
     taken_as _ _ _ _ _ _ _ _ _ c.in-Trace.is refl
-    (unopened_taken _ c.args.settled arcs lengths c.args.values.now c.args.counts.now c.args.work.now c.args.path.now _ _ _ c.min-most-work.result c.min-most-path.result c.min-most-work.ensures c.min-most-path.ensures
+    (unopened_taken _ c.args.settled arcs lengths c.args.values.now c.args.counts.now c.args.work.now c.args.path.now _ _ _ c.min-most_work.result c.min-most_path.result c.min-most_work.ensures c.min-most_path.ensures
     c.in-Err.back c.in-Err.ensures)
 
 pub returns-in-Reopen : goal.returns-in-Reopen

@@ -6,9 +6,9 @@ use Rattle.netfile.specs.Records.{body_size}
 use Rattle.netfile.specs.Judging.{judged_next}
 use Rattle.netfile.proofs.Runs.{Come, come_none, taken_more, stops, breaks, trailing, accepts}
 use Rattle.netfile.proofs.checking.walk.Goals as goal
-use Rattle.netfile.proofs.checking.walk.Goals.{in-Over, in-default}
+use Rattle.netfile.proofs.checking.walk.Goals.{in-Over, in_default}
 
-again : (c : goal.After-body-size) → Come c.args.limits c.args.file.now (c.loop-progress.at + (2 + c.body_size.result)) c.in-Ok.after
+again : (c : goal.After-body_size) → Come c.args.limits c.args.file.now (c.loop-progress.at + (2 + c.body_size.result)) c.in-Ok.after
 again c =
     taken_more c.args.limits c.args.file.now c.loop-progress.at c.loop-progress.progress c.loop-progress.invariant _ (take_rest c.args.file.now c.loop-progress.at) c.in-Ok.item c.in-Ok.after c.in-Ok.ensures c.body_size.result (c.body_size.ensures ∙ ap (λ m. body_size m c.loop-progress.progress.kind) c.mark.ensures)
 
@@ -26,7 +26,7 @@ returns-in-Err c =
     let going : p.stage ≡ Over → ⊥ =
     elim c.match-matches.branch [
       | in-Over w ↦ λ o. both_ways _ c.if-not-matches.true w.matches-is
-      | in-default w ↦ w.in-default.not-Over
+      | in_default w ↦ w.in_default.not-Over
     ] in
     let e = ap (judged_next c.args.limits p) (sym (take_rest file at)) ∙ c.in-Err.ensures in
     breaks c.args.limits file at p c.in-Err.reason c.if-file-limits.false c.loop-progress.invariant (stops c.args.limits p.stage p (drop at file) c.in-Err.reason going e)
@@ -39,7 +39,7 @@ returns-then-at-end c =
     let over : p.stage ≡ Over =
     elim c.match-matches.branch [
       | in-Over w ↦ w.in-Over.is
-      | in-default w ↦ absurd (both_ways _ w.matches-is c.if-not-matches.false)
+      | in_default w ↦ absurd (both_ways _ w.matches-is c.if-not-matches.false)
     ] in
     let lt : at < length file = c.if-at-end.true in
     breaks c.args.limits file at p _ c.if-file-limits.false c.loop-progress.invariant (trailing c.args.limits p.stage p (drop at file) over (omega (arith, length-drop at file)))
@@ -50,6 +50,6 @@ returns c =
     let over : p.stage ≡ Over =
     elim c.match-matches.branch [
       | in-Over w ↦ w.in-Over.is
-      | in-default w ↦ absurd (both_ways _ w.matches-is c.if-not-matches.false)
+      | in_default w ↦ absurd (both_ways _ w.matches-is c.if-not-matches.false)
     ] in
     accepts c.args.limits c.args.file.now c.loop-progress.at p c.if-file-limits.false c.loop-progress.invariant c.if-at-end.false over

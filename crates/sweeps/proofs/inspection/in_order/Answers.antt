@@ -1,5 +1,4 @@
-use Rattle.std.proofs.Common.{suc, ◌<◌, ◌≤◌, length, refl, arith}
-use Prim.{tt}
+use Rattle.std.proofs.Common.{suc, ◌<◌, length, refl, arith}
 use Rattle.std.proofs.lemmas.List.{get_or_read}
 use Rattle.sweeps.specs.Tables.{network}
 use Rattle.sweeps.proofs.Checking.{checked_none, checked_more, checked_all, checked_falls, fits_proper, proper_fits}

@@ -1,4 +1,4 @@
-use Rattle.std.proofs.Common.{◌≡◌, ℕ, suc, ◌-◌, ◌<◌, ◌≤◌, ◌&&◌, length, get_or, sym, refl, ap, ◌∙◌, arith}
+use Rattle.std.proofs.Common.{suc, ◌-◌, ◌<◌, length, sym, refl, ◌∙◌, arith}
 use Rattle.std.proofs.lemmas.List.{get_or_read}
 use Rattle.sweeps.specs.Tables.{network}
 use Rattle.sweeps.proofs.Noding.{two_rows, uses_taken, block_arc, block_ordered, node_none, node_all, node_skip, node_more}
@@ -10,16 +10,16 @@ loop-a-init g c =
     node_none g.M.Measure.algebra (network g.M.Measure.algebra c.args.nodes c.args.arcs.now c.args.lengths.now) c.args.k c.args.down c.args.j c.args.values.now c.args.counts.now c.args.first.now
     c.requires.known.indexed c.requires.low c.requires.high _ refl (c.requires.shape.full (c.args.j - 1))
 
-pub overflow-sub-from : goal.overflow-sub-from
-overflow-sub-from g c = (block_arc _ _ _ _ _ c.requires.known c.args.j c.requires.low c.requires.high c.loop-a.a c.loop-a.auto.a c.loop-a-test.true).low
+pub overflow_sub-from : goal.overflow_sub-from
+overflow_sub-from g c = (block_arc _ _ _ _ _ c.requires.known c.args.j c.requires.low c.requires.high c.loop-a.a c.loop-a.auto.a c.loop-a-test.true).low
 
 pub bounds-counts-from : goal.bounds-counts-from
 bounds-counts-from g c =
     let b = block_arc _ _ _ _ _ c.requires.known c.args.j c.requires.low c.requires.high c.loop-a.a c.loop-a.auto.a c.loop-a-test.true in
     omega (arith, b.low, b.high, c.requires.shape.nodes)
 
-pub work-arc-done-requires : goal.work-arc-done-requires
-work-arc-done-requires g c =
+pub work_arc-done-requires : goal.work_arc-done-requires
+work_arc-done-requires g c =
     let b = block_arc _ _ _ _ _ c.requires.known c.args.j c.requires.low c.requires.high c.loop-a.a c.loop-a.auto.a c.loop-a-test.true in
     two_rows c.args.nodes c.args.k (length c.args.values.now) _ _ c.args.j _ c.args.counts.now c.requires.shape c.loop-a.auto.values b.low b.high c.requires.low c.requires.high b.apart c.loop-a.invariant.bound
 
@@ -35,7 +35,7 @@ loop-a-preserved g c =
       | then-taken w ↦
           simp (w.values-is, w.count-is, w.changed-is)
           (node_more m net p.k p.down p.j p.values.now p.counts.now c.loop-a.a c.loop-a.count _ c.loop-a.changed _ c.loop-a.values _ _ g.met.M.Measure.lawful c.loop-a.invariant (way ∙ sym c.taken.ensures ∙ w.if-taken.true)
-          (get_or_read p.lengths.now c.loop-a.a w.index-lengths-a.result lt w.index-lengths-a.is m.null) b.low c.requires.low b.apart w.work-arc-done.ensures)
+          (get_or_read p.lengths.now c.loop-a.a w.index-lengths-a.result lt w.index-lengths-a.is m.null) b.low c.requires.low b.apart w.work_arc-done.ensures)
       | else-taken w ↦
           simp (w.values-is, w.count-is, w.changed-is)
           (node_skip m net p.k p.down p.j p.values.now p.counts.now c.loop-a.a c.loop-a.count c.loop-a.changed c.loop-a.values c.loop-a.invariant (way ∙ sym c.taken.ensures ∙ w.if-taken.false))

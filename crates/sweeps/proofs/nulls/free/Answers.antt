@@ -1,4 +1,4 @@
-use Rattle.std.proofs.Common.{◌≡◌, ℕ, suc, ◌+◌, ◌-◌, ◌<◌, ◌≤◌, true, length, get_or, sym, refl, ap, ◌∙◌, subst, inl, inr, arith}
+use Rattle.std.proofs.Common.{◌≡◌, suc, ◌<◌, ◌≤◌, true, length, get_or, sym, ap, ◌∙◌, subst, inl, inr, arith}
 use Rattle.std.proofs.lemmas.List.{get_or_read}
 use Rattle.std.proofs.lemmas.Bool.{both_ways, cases_eq}
 use Rattle.sweeps.specs.Tables.{network, no_arc, arc_at}
@@ -9,8 +9,8 @@ use Rattle.sweeps.proofs.nulls.free.Given as given
 use Rattle.sweeps.proofs.nulls.free.Goals as goal
 use Rattle.sweeps.proofs.nulls.free.Goals.{then-ranks-from-eq0+else-tight, else-ranks-from-eq0}
 
-pub overflow-sub-from : goal.overflow-sub-from
-overflow-sub-from g c = (block_arc _ _ _ _ _ c.requires.known c.args.j c.requires.low c.requires.high c.loop-a.a c.loop-a.auto.a c.loop-a-test.true).low
+pub overflow_sub-from : goal.overflow_sub-from
+overflow_sub-from g c = (block_arc _ _ _ _ _ c.requires.known c.args.j c.requires.low c.requires.high c.loop-a.a c.loop-a.auto.a c.loop-a-test.true).low
 
 pub bounds-ranks-from : goal.bounds-ranks-from
 bounds-ranks-from g c =

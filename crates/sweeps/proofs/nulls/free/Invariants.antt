@@ -1,4 +1,4 @@
-use Rattle.std.proofs.Common.{◌≡◌, ℕ, suc, ◌-◌, ◌<◌, ◌≤◌, true, get_or}
+use Rattle.std.proofs.Common.{◌≡◌, ℕ, ◌-◌, ◌<◌, ◌≤◌, true, get_or}
 use Rattle.sweeps.specs.Tables.{network, arc_at}
 use Rattle.sweeps.specs.Ranks.{tight_at, rank_of}
 use Rattle.sweeps.proofs.nulls.free.Given as goal

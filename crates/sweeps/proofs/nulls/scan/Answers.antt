@@ -8,8 +8,8 @@ use Rattle.sweeps.proofs.nulls.scan.Goals.{then-ranks-i-eq0+then-free, then-rank
 pub loop-i-init : goal.loop-i-init
 loop-i-init g c = part_none _ _ _ _ _ _ _ c.requires.climbs
 
-pub overflow-add-total : goal.overflow-add-total
-overflow-add-total g c = omega (arith, c.loop-i.invariant.climbs.total)
+pub overflow_add-total : goal.overflow_add-total
+overflow_add-total g c = omega (arith, c.loop-i.invariant.climbs.total)
 
 pub loop-i-preserved : goal.loop-i-preserved
 loop-i-preserved g c =

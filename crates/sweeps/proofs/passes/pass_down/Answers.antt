@@ -1,5 +1,5 @@
 use Rattle.sweeps.proofs.Noding.{formed_of}
-use Rattle.std.proofs.Common.{◌≡◌, suc, ◌-◌, ◌≤◌, inl, inr, arith, rules}
+use Rattle.std.proofs.Common.{inl, inr, arith}
 use Rattle.sweeps.proofs.Looping.{down_none, down_more, down_all}
 use Rattle.sweeps.proofs.passes.pass_down.Goals as goal
 use Rattle.sweeps.proofs.passes.pass_down.Goals.{then-moved, else-moved}
@@ -7,14 +7,14 @@ use Rattle.sweeps.proofs.passes.pass_down.Goals.{then-moved, else-moved}
 pub loop-j-init : goal.loop-j-init
 loop-j-init g c = down_none _ _ _ g.met.M.Measure.lawful (formed_of _ _ c.requires.known.ordered) _ _ c.requires.shape
 
-pub work-node-moved-requires : goal.work-node-moved-requires
-work-node-moved-requires g c = record { shape = c.loop-j.invariant.shape; low = omega arith; high = omega arith; known = c.requires.known }
+pub work_node-moved-requires : goal.work_node-moved-requires
+work_node-moved-requires g c = record { shape = c.loop-j.invariant.shape; low = omega arith; high = omega arith; known = c.requires.known }
 
 pub loop-j-preserved : goal.loop-j-preserved
 loop-j-preserved g c =
     elim c.if-moved.branch [
-      | then-moved w ↦ down_more _ _ _ g.met.M.Measure.lawful (formed_of _ _ c.requires.known.ordered) _ _ _ _ _ _ _ _ _ _ _ (omega arith) (omega arith) (inl (w.if-moved.true, w.changed-is)) c.loop-j.invariant c.work-node-moved.ensures
-      | else-moved w ↦ down_more _ _ _ g.met.M.Measure.lawful (formed_of _ _ c.requires.known.ordered) _ _ _ _ _ _ _ _ _ _ _ (omega arith) (omega arith) (inr (w.if-moved.false, w.changed-is)) c.loop-j.invariant c.work-node-moved.ensures
+      | then-moved w ↦ down_more _ _ _ g.met.M.Measure.lawful (formed_of _ _ c.requires.known.ordered) _ _ _ _ _ _ _ _ _ _ _ (omega arith) (omega arith) (inl (w.if-moved.true, w.changed-is)) c.loop-j.invariant c.work_node-moved.ensures
+      | else-moved w ↦ down_more _ _ _ g.met.M.Measure.lawful (formed_of _ _ c.requires.known.ordered) _ _ _ _ _ _ _ _ _ _ _ (omega arith) (omega arith) (inr (w.if-moved.false, w.changed-is)) c.loop-j.invariant c.work_node-moved.ensures
     ]
 
 pub returns : goal.returns

@@ -1,17 +1,16 @@
-use Rattle.std.proofs.Common.{◌≡◌, ℕ, ◌+◌, ◌≤◌, ◌||◌, ltb, sym, ap, ◌∙◌, subst, arith}
-use Prim.{tt}
+use Rattle.std.proofs.Common.{◌||◌, ltb, sym, ap, ◌∙◌, subst, arith}
 use Rattle.sweeps.proofs.Placing.{Seeks, first_low, first_past, past_more, next_less, placed_same, lands, shifts_none, shifts_more, placed_room, placed_full, tells_after, tells_same}
 use Rattle.sweeps.proofs.rows.place.Goals.{then-loop-at-test+else-after, else-loop-at-test, else-at-count-via-then-at-count+else-same, else-at-count-via-else-at-count}
 use Rattle.sweeps.proofs.rows.place.Goals as goal
 
-pub first-cell-at-requires : goal.first-cell-at-requires
-first-cell-at-requires g c = omega (arith, c.requires.fits, c.requires.start)
+pub first_cell-at-requires : goal.first_cell-at-requires
+first_cell-at-requires g c = omega (arith, c.requires.fits, c.requires.start)
 
 pub loop-at-init : goal.loop-at-init
 loop-at-init g c =
     let m = g.M.Measure.algebra in
     let p = c.args in
-    subst (Seeks m p.row.now p.count p.x) (sym c.first-cell-at.ensures)
+    subst (Seeks m p.row.now p.count p.x) (sym c.first_cell-at.ensures)
     (record { low = first_low m p.row.now p.count p.was p.x c.requires.fits p.from c.requires.start; past = first_past m p.row.now p.count p.was p.x c.requires.fits g.met.M.Measure.lawful p.from c.requires.start })
 
 pub loop-at-preserved : goal.loop-at-preserved

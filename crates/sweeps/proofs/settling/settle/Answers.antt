@@ -1,5 +1,4 @@
-use Rattle.std.proofs.Common.{◌≡◌, ◌+◌, ◌-◌, ◌*◌, ◌<◌, ◌≤◌, ◌⊎◌, length, set, replicate, sym, refl, ap, ◌∙◌, inl, inr, arith}
-use Prim.{tt}
+use Rattle.std.proofs.Common.{◌+◌, ◌-◌, set, refl, ap, inl, inr, arith}
 use Rattle.sweeps.specs.Tables.{network}
 use Rattle.sweeps.proofs.Noding.{formed_of}
 use Rattle.sweeps.proofs.Rings.{lagging_refused}

@@ -1,4 +1,3 @@
-use Prim.{tt}
 use Rattle.walks.proofs.Solving.{exactness, refusals, passes}
 use Rattle.sweeps.specs.Tables.{network}
 use Rattle.sweeps.proofs.Rings.{within_of, null_told}
@@ -12,7 +11,7 @@ returns-in-Some g c =
     let k = c.args.order.k in
     let s = c.args.order.source in
     let net = network m c.args.nodes c.args.arcs.now c.args.lengths.now in
-    let order = c.if-not-in-order.ensures in
+    let order = c.if-not-in_order.ensures in
     let within = within_of m net k s c.requires.bounds order in
     let h = c.in-Some.ensures in
     record {
@@ -20,7 +19,7 @@ returns-in-Some g c =
       few = (passes laws net k s within c.in-Some.passes h.ended).2;
       held = held_of m c.args.nodes k _ _ _ h.are;
       exact = exactness laws net k s within c.in-Some.passes h.ended;
-      null_told = null_told laws net k s c.requires.bounds order c.in-Some.passes _ _ h _ c.null-circuit-null.ensures;
+      null_told = null_told laws net k s c.requires.bounds order c.in-Some.passes _ _ h _ c.null_circuit-null.ensures;
     }
 
 pub returns-in-None : goal.returns-in-None

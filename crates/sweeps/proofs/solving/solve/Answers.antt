@@ -1,5 +1,4 @@
 use Rattle.std.proofs.Common.{rules}
-use Prim.{tt}
 use Rattle.std.proofs.lemmas.Slice.{overwrites}
 use Rattle.sweeps.proofs.Wholes.{solves_some, solves_none}
 use Rattle.sweeps.proofs.solving.solve.Goals as goal

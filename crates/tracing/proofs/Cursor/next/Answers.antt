@@ -15,7 +15,7 @@ pub returns-in-Some-value : goal.returns-in-Some-value
 returns-in-Some-value g c = record {
   target = refl;
   work_size = c.advance.auto.work;
-  path_size = c.write-path.auto.path;
-  frame = (c.if-found-path.false, c.write-path.ensures.past);
-  meant = λ t h st room. next_some g.met.M.Measure.lawful _ _ _ _ _ _ c.in-Some.ensures _ _ _ c.in-Some-value.ensures.1 (omega arith) c.advance.auto.work c.write-path.ensures t h st;
+  path_size = c.write_path.auto.path;
+  frame = (c.if-found-path.false, c.write_path.ensures.past);
+  meant = λ t h st room. next_some g.met.M.Measure.lawful _ _ _ _ _ _ c.in-Some.ensures _ _ _ c.in-Some-value.ensures.1 (omega arith) c.advance.auto.work c.write_path.ensures t h st;
 }

@@ -4,8 +4,8 @@ use Rattle.sweeps.specs.Tables.{start_of}
 use Rattle.tracing.proofs.Cells.{cell_in}
 use Rattle.tracing.proofs.labels.value.Goals as goal
 
-pub offset-bounds-lent-node-2 : goal.offset-bounds-lent-node-2
-offset-bounds-lent-node-2 g c =
+pub offset_bounds-lent-node-2 : goal.offset_bounds-lent-node-2
+offset_bounds-lent-node-2 g c =
     let l : start_of c.args.lent.k c.args.node + c.args.place < length c.args.lent.values.now = cell_in c.args.lent.nodes c.args.lent.k c.args.node c.args.place (length c.args.lent.values.now) c.requires.sizes.rows (omega arith) (omega arith) (omega arith) in
     search rules
 

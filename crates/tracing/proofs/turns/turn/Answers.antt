@@ -11,7 +11,7 @@ returns-in-Some g c =
     (omega arith, z, turn_some g.M.Measure.algebra _ _ _ _ _ _ _ _ c.loop-left.invariant.0 (omega (arith, c.requires.within)) (omega arith) c.loop-left.invariant.1 c.level-at.ensures c.in-Some.ensures)
 
 pub loop-left-preserved : goal.loop-left-preserved
-loop-left-preserved g c = (c.loop-left.invariant.0, turn_less g.M.Measure.algebra _ _ _ _ _ _ (omega (arith, c.requires.within)) (omega arith) c.loop-left.invariant.1 c.level-at.ensures c.in-default.ensures)
+loop-left-preserved g c = (c.loop-left.invariant.0, turn_less g.M.Measure.algebra _ _ _ _ _ _ (omega (arith, c.requires.within)) (omega arith) c.loop-left.invariant.1 c.level-at.ensures c.in_default.ensures)
 
 pub returns : goal.returns
 returns g c = (c.loop-left.invariant.0, turn_none g.M.Measure.algebra _ _ _ _ _ _ c.loop-left.invariant.0 (omega arith) c.loop-left.invariant.1)

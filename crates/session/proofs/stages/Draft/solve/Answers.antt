@@ -1,4 +1,4 @@
-use Rattle.std.proofs.Common.{◌≡◌, min, length, refl, ap, ◌∙◌}
+use Rattle.std.proofs.Common.{min, length, refl, ap, ◌∙◌}
 use Rattle.session.proofs.Answering.{solve_done, solve_meant}
 use Rattle.session.proofs.stages.Draft.solve.Goals as goal
 

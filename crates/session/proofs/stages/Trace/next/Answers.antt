@@ -1,4 +1,4 @@
-use Rattle.std.proofs.Common.{◌≡◌, min, length, ap, ◌∙◌}
+use Rattle.std.proofs.Common.{min, length, ap, ◌∙◌}
 use Rattle.session.proofs.Following.{next_done, next_meant}
 use Rattle.session.proofs.stages.Trace.next.Goals as goal
 

@@ -1,5 +1,5 @@
 -- The order of routes is total.
-use Rattle.std.proofs.Common.{◌≡◌, ℕ, ◌<◌, ◌≤◌, Bool, true, false, cond, ◌⊎◌, Ordering, Less, Equal, Greater, sym, refl, ap, ◌∙◌, subst, inl, inr, ⊎_elim, arith}
+use Rattle.std.proofs.Common.{◌≡◌, ℕ, ◌<◌, false, ◌⊎◌, Ordering, Less, Equal, Greater, sym, refl, ap, ◌∙◌, subst, inl, inr, ⊎_elim, arith}
 use Rattle.std.specs.Cmp.{IsTotalOrder}
 use Rattle.std.specs.Ordering.{ordering_reverse, is_lt}
 use Rattle.std.proofs.lemmas.Bool.Decides.{nat_tests}
@@ -62,13 +62,11 @@ module _ {V : Type 0} {m : Algebra V} (laws : Laws m) where
   before : (a b : Route V) → route_compare m a b ≡ Less → NotAfter m a b
   before a b e = ⊎_elim inl (λ h. inr (laws.same a.length b.length h.0, (let l = h.1 in omega arith))) (parts a b e)
 
-  abbrev pub total_order : IsTotalOrder (λ (a b : Route V) (r : Ordering). r ≡ route_compare m a b)
+  pub total_order : IsTotalOrder (route_compare m)
   total_order = record {
-    cmp = route_compare m;
-    says = λ a b r e. e;
-    flip = flipped;
+    antisymm = flipped;
     trans = transitive;
-    alike = λ a b c e. ap (λ r. route_compare m r c) (alike a b e);
+    congr = λ a b c e. ap (λ r. route_compare m r c) (alike a b e);
   }
 
   -- what does not come after by the order may stand in front
