@@ -1,5 +1,5 @@
 -- What the calls on a draft that change its network add to a log.
-use Rattle.std.proofs.Common.{◌≡◌, ℕ, ◌+◌, true, false, List, length, Ok, Err, Result, sym, refl, ap, ◌∙◌, subst, inr}
+use Rattle.std.proofs.Common.{ℕ, ◌+◌, true, false, List, length, Ok, Err, Result, sym, refl, ap, ◌∙◌, inr}
 use Rattle.measure.specs.Algebra.{Algebra}
 use Rattle.sweeps.specs.declared.Arc.{Arc}
 use Rattle.sweeps.specs.declared.refusal.Refusal.{Refusal}
@@ -12,7 +12,7 @@ use Rattle.journal.specs.declared.calls.Call.TheVariants.{Put, Relength, Close, 
 use Rattle.journal.specs.declared.stages.Stage.TheVariants.{Drafting}
 use Rattle.journal.specs.Answers.{is_circuit, as_numbered, as_done}
 use Rattle.journal.specs.Logs.{same, drafting, rows}
-use Rattle.journal.specs.Performs.{Tables, tables, HeldRows, Taken}
+use Rattle.journal.specs.Performs.{Tables, tables, Taken}
 use Rattle.journal.proofs.Entries.{either_way}
 
 module _ {V : Type 0} (m : Algebra V) (d : Draft) (arcs : List Arc) (lengths values : List V) (counts : List ℕ) (work : List Step) (path : List ℕ) where

@@ -1,5 +1,5 @@
 -- An arc is closed exactly if an accepted close of it has no accepted open of it after.
-use Rattle.std.proofs.Common.{◌≡◌, ℕ, ◌+◌, ◌-◌, ◌<◌, ◌≤◌, Bool, true, false, cond, ◌⊎◌, List, [], ◌∷◌, ◌++◌, length, set, sym, refl, ap, ◌∙◌, subst, ⊎_elim, arith, length-append, length-set}
+use Rattle.std.proofs.Common.{◌≡◌, ℕ, ◌+◌, ◌-◌, ◌<◌, ◌≤◌, Bool, true, false, cond, List, [], ◌∷◌, ◌++◌, length, set, sym, refl, ap, ◌∙◌, subst, ⊎_elim, arith, length-append, length-set}
 use native.Mathlib.Decide.{dec_lt, ℕ_discrete}
 use Rattle.measure.specs.Algebra.{Algebra}
 use Rattle.sweeps.specs.declared.Arc.{Arc}

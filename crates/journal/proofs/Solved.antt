@@ -1,11 +1,10 @@
 -- What a solve adds to a log.
-use Rattle.std.proofs.Common.{◌≡◌, ℕ, ◌+◌, ◌-◌, ◌*◌, min, Bool, true, false, cond, ◌||◌, ltb, List, [], ◌++◌, length, take, Some, None, Ok, Err, Option, sym, refl, ap, ◌∙◌, subst, inl, inr, arith, take-append-drop, length-take}
+use Rattle.std.proofs.Common.{◌≡◌, ℕ, ◌-◌, ◌*◌, min, Bool, true, false, cond, ◌||◌, ltb, List, [], ◌++◌, length, take, Some, None, Ok, Err, Option, sym, refl, ap, ◌∙◌, subst, inl, inr, arith, take-append-drop, length-take}
 use borrow.Rule.Slice.PartMut.{post_of}
 use Rattle.measure.specs.Algebra.{Algebra}
 use Rattle.walks.specs.Rows.{Table}
 use Rattle.walks.specs.Method.{rows as swept}
 use Rattle.walks.specs.Theorems.{ExactRow}
-use Rattle.walks.specs.Solves.{settled, refused}
 use Rattle.sweeps.specs.declared.Arc.{Arc}
 use Rattle.sweeps.specs.declared.Solved.{Solved as Found}
 use Rattle.sweeps.specs.declared.order.Order.{Order}

@@ -7,7 +7,7 @@ use Rattle.session.specs.Nets.{Net}
 use Rattle.journal.specs.declared.calls.Call.{Call}
 use Rattle.journal.specs.declared.calls.Call.TheVariants.{Put, Relength, Close, Open, Solve, Length, Trace, Next, Finish, Reopen}
 use Rattle.journal.specs.Answers.{accepted, by_circuit}
-use Rattle.journal.specs.Logs.{Logged, Rows, Kind, drafting, resting, tracing, same, takes, leads_to, changed, rows_after, rows_cleared, stage, network, rows, target, handed}
+use Rattle.journal.specs.Logs.{Logged, Kind, drafting, resting, tracing, same, takes, leads_to, changed, rows_after, rows_cleared, stage, network, rows, target, handed}
 use Rattle.journal.specs.Promise.{SolveRight, Answered}
 use Rattle.journal.specs.Histories.{ExactRows, RowsStayExact}
 

@@ -1,5 +1,5 @@
 -- What the calls on an open trace add to a log.
-use Rattle.std.proofs.Common.{◌≡◌, ℕ, ◌≤◌, ◌⊎◌, List, ◌∷◌, reverse, length, take, Some, None, sym, refl, ap, ◌∙◌, subst, inr, ⊎_elim, arith}
+use Rattle.std.proofs.Common.{◌≡◌, ℕ, ◌≤◌, List, ◌∷◌, reverse, length, take, Some, None, sym, refl, ap, ◌∙◌, subst, inr, ⊎_elim, arith}
 use mathlib.Core.List.{reverse-reverse}
 use lib.ListN.{length-reverse}
 use Rattle.measure.specs.Algebra.{Algebra, Laws}

@@ -1,16 +1,15 @@
 -- The parts of a next, put together.
-use Rattle.std.proofs.Common.{◌≡◌, ℕ, ◌+◌, ◌-◌, ◌*◌, ◌<◌, ◌≤◌, Bool, true, false, List, [], ◌∷◌, ◌++◌, length, get_or, take, Some, None, Option, sym, refl, ap, ◌∙◌, subst, arith, length-append}
+use Rattle.std.proofs.Common.{◌≡◌, ℕ, ◌+◌, ◌-◌, ◌*◌, ◌≤◌, Bool, true, false, List, [], ◌++◌, length, get_or, take, Some, None, Option, sym, ap, ◌∙◌, subst, arith, length-append}
 use lib.Seq.{take-append-add}
 use Rattle.std.proofs.lemmas.Bool.{true≢false, false≢true}
 use Rattle.std.proofs.lemmas.List.{length-take-le, append-nil, take-append-le}
 use Rattle.measure.specs.Algebra.{Algebra, Laws}
 use Rattle.walks.specs.Rows.{Table}
 use Rattle.walks.specs.Paths.{Next}
-use Rattle.walks.specs.Ways.{Last}
 use Rattle.tracing.specs.declared.Step.{Step}
-use Rattle.tracing.specs.Labels.{Tables, Label, lab, no_step, Held, Back, Home}
+use Rattle.tracing.specs.Labels.{Tables, Label, lab, no_step, Held, Home}
 use Rattle.tracing.specs.Steps.{arcs_of, end_of, WayFrom, Alive, Down, Stands, Turn, Descended, Turned}
-use Rattle.tracing.specs.Nexts.{net_of, Settled, Tracing, Opened, Found, Over, Advanced}
+use Rattle.tracing.specs.Nexts.{net_of, Tracing, Opened, Found, Advanced}
 use Rattle.tracing.proofs.Chains.{end_join, arcs_join, arcs_length, chain_way, chain_join}
 use Rattle.tracing.proofs.Turning.{end_at}
 use Rattle.tracing.proofs.Meaning.{sound_is, alive, few_arcs}

@@ -1,5 +1,5 @@
 -- The call next.
-use Rattle.std.proofs.Common.{◌≡◌, ℕ, zero, suc, ◌-◌, ◌*◌, ◌<◌, ◌≤◌, Bool, true, false, List, [], ◌∷◌, reverse, length, get_or, take, Some, None, Option, sym, refl, ap, ◌∙◌, subst, arith}
+use Rattle.std.proofs.Common.{◌≡◌, ℕ, zero, suc, ◌-◌, ◌*◌, ◌<◌, ◌≤◌, true, List, [], ◌∷◌, reverse, length, get_or, take, Some, None, sym, refl, ap, ◌∙◌, subst, arith}
 use Rattle.std.proofs.lemmas.List.{length-take-le, ext_get_or, get_or-reverse, get_or-take, length-reverse}
 use Rattle.measure.specs.Algebra.{Algebra, Laws}
 use Rattle.walks.specs.Rows.{Table}
@@ -8,7 +8,7 @@ use Rattle.tracing.specs.declared.Step.{Step}
 use Rattle.tracing.specs.declared.Cursor.{Cursor}
 use Rattle.tracing.specs.Labels.{Tables, Held, Sizes, val, no_step}
 use Rattle.tracing.specs.Steps.{arcs_of}
-use Rattle.tracing.specs.Nexts.{net_of, Written, last_of, Advanced}
+use Rattle.tracing.specs.Nexts.{net_of, Written, Advanced}
 use Rattle.tracing.specs.Standing.{newest, Standing, Hands, Ends}
 use Rattle.tracing.proofs.Chains.{arcs_length}
 use Rattle.tracing.proofs.Meaning.{path_of, few_arcs}

@@ -1,5 +1,5 @@
 -- The next path, told by the ways back from the labels of the target.
-use Rattle.std.proofs.Common.{◌≡◌, ℕ, zero, suc, ◌+◌, ◌<◌, ◌≤◌, List, [], ◌∷◌, length, get_or, Some, None, Option, sym, refl, ◌∙◌, subst, arith}
+use Rattle.std.proofs.Common.{◌≡◌, ℕ, zero, suc, ◌+◌, ◌<◌, ◌≤◌, List, [], ◌∷◌, length, get_or, Some, None, sym, subst, arith}
 use native.Mathlib.Decide.{dec_lt}
 use Rattle.measure.specs.Algebra.{Algebra, Laws, Before}
 use Rattle.walks.specs.Walks.{walk_length}

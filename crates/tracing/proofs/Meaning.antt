@@ -1,8 +1,8 @@
 -- The ways back from a label of the tables are the paths of its length.
-use Rattle.std.proofs.Common.{◌≡◌, ℕ, zero, suc, ◌+◌, ◌-◌, ◌*◌, ◌<◌, ◌≤◌, ◌⊎◌, List, [], ◌∷◌, length, get_or, take, drop, sym, refl, ap, ◌∙◌, subst, inl, inr, mul-le-mul_right, mul-le-mul, arith}
+use Rattle.std.proofs.Common.{◌≡◌, ℕ, zero, suc, ◌+◌, ◌-◌, ◌*◌, ◌<◌, ◌≤◌, List, [], ◌∷◌, length, get_or, drop, sym, refl, ap, ◌∙◌, subst, inl, inr, mul-le-mul, arith}
 use Rattle.std.proofs.lemmas.List.{get_or-take, get_or-drop, length-drop, length-take-le, take_all}
 use Rattle.measure.specs.Algebra.{Algebra, Laws, Joinable}
-use Rattle.walks.specs.Networks.{Network, Open}
+use Rattle.walks.specs.Networks.{Network}
 use Rattle.walks.specs.Walks.{walk_length}
 use Rattle.walks.specs.Rows.{Table, In}
 use Rattle.walks.specs.Method.{rows}
@@ -14,7 +14,7 @@ use Rattle.walks.specs.Labels.{FoundByLabels, WayOf}
 use Rattle.walks.specs.Labels as walks
 use Rattle.walks.proofs.Labels.{next_paths}
 use Rattle.walks.proofs.Solving.{exactness, refusals, passes, joins, beginnings}
-use Rattle.sweeps.specs.Tables.{arc_at, length_at, start_of, cells, count_of, row_of, RowsHeld}
+use Rattle.sweeps.specs.Tables.{arc_at, length_at, start_of, cells, count_of, row_of}
 use Rattle.tracing.specs.Labels.{Tables, Label, Held, val, Back, Home}
 use Rattle.tracing.specs.Steps.{WayFrom, Alive, Sound}
 use Rattle.tracing.specs.Nexts.{net_of, Settled}

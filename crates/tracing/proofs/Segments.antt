@@ -5,7 +5,7 @@ use Rattle.walks.specs.Networks.{Network}
 use Rattle.walks.specs.Rows.{Table, In}
 use Rattle.walks.specs.Paths.{Ahead, TotalOrder, PathTo, Since, Next}
 use Rattle.walks.proofs.Paths.{paths_ordered}
-use Rattle.tracing.specs.Standing.{newest, HandedOut, NewestLast, Segment, Segments}
+use Rattle.tracing.specs.Standing.{newest, HandedOut, Segment, Segments}
 
 module _ {V : Type 0} {m : Algebra V} (laws : Laws m) (net : Network V) (s : ℕ) (t : Table V) (j : ℕ) where
   order : TotalOrder m net

@@ -1,9 +1,8 @@
 -- What a settled solve leaves is what a trace asks for.
-use Rattle.std.proofs.Common.{◌≡◌, ℕ, List, [], sym, refl, ◌∙◌, arith}
+use Rattle.std.proofs.Common.{◌≡◌, ℕ, refl, arith}
 use Rattle.measure.specs.Algebra.{Algebra, Laws}
 use Rattle.walks.specs.Circuits.{NegativeCircuit}
 use Rattle.walks.specs.Method.{rows}
-use Rattle.walks.specs.Solves.{settled, refused, outcome}
 use Rattle.walks.specs.Theorems.{Within}
 use Rattle.walks.proofs.Solving.{exactness, refusals}
 use Rattle.tracing.specs.Labels.{Tables}

@@ -1,5 +1,5 @@
 -- The labels of the caller's tables, and the arcs that lead back from one to another.
-use Rattle.std.specs.Prelude.{◌≡◌, ℕ, ◌+◌, ◌-◌, ◌*◌, ◌<◌, ◌≤◌, Bool, true, false, List, length, Some, None, Option, slice_index_or}
+use Rattle.std.specs.Prelude.{◌≡◌, ℕ, ◌+◌, ◌*◌, ◌<◌, ◌≤◌, Bool, true, false, List, length, Some, None, Option, slice_index_or}
 use Rattle.measure.specs.Algebra.{Algebra, Joinable}
 use Rattle.walks.specs.Ways.{Lowest, NoneAbove}
 use Rattle.sweeps.specs.declared.Arc.{Arc}

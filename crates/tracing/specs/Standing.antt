@@ -1,5 +1,5 @@
 -- Where a cursor stands, and what the call next means.
-use Rattle.std.specs.Prelude.{◌≡◌, ℕ, ◌*◌, ◌≤◌, Bool, true, false, ◌⊎◌, List, [], ◌∷◌, reverse, length, take, drop, Some, None, Option}
+use Rattle.std.specs.Prelude.{◌≡◌, ℕ, ◌*◌, ◌≤◌, false, ◌⊎◌, List, [], ◌∷◌, reverse, length, take, drop, Some, None, Option}
 use Rattle.measure.specs.Algebra.{Algebra}
 use Rattle.walks.specs.Networks.{Network}
 use Rattle.walks.specs.Walks.{walk_length}
@@ -12,7 +12,7 @@ use Rattle.sweeps.specs.Tables.{InOrder, RowsHeld}
 use Rattle.tracing.specs.declared.Step.{Step}
 use Rattle.tracing.specs.declared.Cursor.{Cursor}
 use Rattle.tracing.specs.Labels.{Tables}
-use Rattle.tracing.specs.Nexts.{net_of, Settled, Tracing, last_of}
+use Rattle.tracing.specs.Nexts.{net_of, Tracing, last_of}
 
 abbrev pub new_cursor : ℕ → Cursor
 new_cursor j = record { target = j; place = 0; depth = 0; begun = false }

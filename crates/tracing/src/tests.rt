@@ -95,22 +95,22 @@ fn paths_come_in_order(rt: HostRuntime) -> Result<(), Fail> {
         step(&mut cursor, order, &counts, &mut work, &mut path),
         (3, 8)
     );
-    assert_eq!(rt; &path[..5], &[3, 1, 5, 0, 0]);
+    assert_eq!(rt; &path[..5], [3, 1, 5, 0, 0].as_slice());
     assert_eq!(rt;
         step(&mut cursor, order, &counts, &mut work, &mut path),
         (2, 9)
     );
-    assert_eq!(rt; &path[..5], &[2, 5, 5, 0, 0]);
+    assert_eq!(rt; &path[..5], [2, 5, 5, 0, 0].as_slice());
     assert_eq!(rt;
         step(&mut cursor, order, &counts, &mut work, &mut path),
         (2, 9)
     );
-    assert_eq!(rt; &path[..5], &[3, 6, 5, 0, 0]);
+    assert_eq!(rt; &path[..5], [3, 6, 5, 0, 0].as_slice());
     assert_eq!(rt;
         step(&mut cursor, order, &counts, &mut work, &mut path),
         (5, 10)
     );
-    assert_eq!(rt; &path[..5], &[3, 1, 4, 1, 5]);
+    assert_eq!(rt; &path[..5], [3, 1, 4, 1, 5].as_slice());
     assert_eq!(rt;
         step(&mut cursor, order, &counts, &mut work, &mut path),
         (0, 0)
@@ -119,7 +119,7 @@ fn paths_come_in_order(rt: HostRuntime) -> Result<(), Fail> {
         step(&mut cursor, order, &counts, &mut work, &mut path),
         (0, 0)
     );
-    assert_eq!(rt; &path[..5], &[3, 1, 4, 1, 5]);
+    assert_eq!(rt; &path[..5], [3, 1, 4, 1, 5].as_slice());
     Ok(())
 }
 

@@ -1,29 +1,22 @@
 use Rattle.std.proofs.Common.{◌≡◌, [], ◌∷◌, ◌++◌, vec_items, refl, ap, ◌∙◌, arith, rules}
 use Rattle.journal.proofs.Answering.{sizes_same}
 use Rattle.journal.proofs.Noting.{begun, went_on, passed_by, one_more, went_some, went_none, all_made}
-use Rattle.std.proofs.lemmas.Result.{err_from_is_err_and}
 use Rattle.journal.proofs.replaying.replay.Goals as goal
-use Rattle.journal.proofs.replaying.replay.Goals.{in-None, in-Some+in_ok-entry+in_ok-push}
+use Rattle.journal.proofs.replaying.replay.Goals.{in-None, in-Some+in_ok-entry-in-Some+in_ok-push-in-Some}
 
 pub loop-call-init : goal.loop-call-init
 loop-call-init g c = begun _ _ _ _ (search rules) c.in-Ok.draft _ refl c.in-Ok.ensures.1 c.in-Ok.ensures.2 c.in-Ok.ensures.3
-
-pub returns-in_err-entry : goal.returns-in_err-entry
-returns-in_err-entry g c = let p = err_from_is_err_and c.from_residual.result c.from_residual.ensures.1 in rw (p.1, p.2) c.in-Ok.ensures.0
-
-pub returns-in_err-push : goal.returns-in_err-push
-returns-in_err-push g c = let p = err_from_is_err_and c.from_residual-in_err-push.result c.from_residual-in_err-push.ensures.1 in rw (p.1, p.2) c.in-Ok.ensures.0
 
 pub loop-call-preserved : goal.loop-call-preserved
 loop-call-preserved g c =
     one_more _ _ _ c.args.calls.now c.loop-call.call-index c.call-item.result _ _ _ (omega arith) c.call-item.is
     (elim c.match-answer.branch [
-      | in-Some+in_ok-entry+in_ok-push w ↦
-          let e : vec_items c.match-answer.entries ≡ vec_items c.loop-call.entries ++ w.in_ok-entry.entry ∷ [] = ap vec_items w.entries-is ∙ w.in_ok-push.ensures.items in
+      | in-Some+in_ok-entry-in-Some+in_ok-push-in-Some w ↦
+          let e : vec_items c.match-answer.entries ≡ vec_items c.loop-call.entries ++ w.in_ok-entry-in-Some.entry ∷ [] = ap vec_items w.entries-is ∙ w.in_ok-push-in-Some.ensures.items in
           simp e
-          (went_on _ _ _ _ _ _ _ _ _ _ w.in-Some.answer w.in_ok-entry.entry
+          (went_on _ _ _ _ _ _ _ _ _ _ w.in-Some.answer w.in_ok-entry-in-Some.entry
           (went_some _ _ _ _ _ _ _ _ c.perform-next.ensures w.in-Some.is)
-          (λ y. w.in_ok-entry.ensures y c.perform-next.new.arcs c.perform-next.new.lengths c.perform-next.new.work)
+          (λ y. w.in_ok-entry-in-Some.ensures y c.perform-next.new.arcs c.perform-next.new.lengths c.perform-next.new.work)
           (sizes_same _ _ _ _ _ _ _ _ _ _ _ _ (search rules) (search rules) (search rules) (search rules) (search rules) (search rules))
           c.loop-call.invariant)
       | in-None w ↦

@@ -1,5 +1,5 @@
 use Rattle.std.proofs.Common.{refl, arith}
-use Rattle.tracing.proofs.Calling.{next_sized, next_none, next_long, next_lost, next_some}
+use Rattle.tracing.proofs.Calling.{next_none, next_long, next_lost, next_some}
 use Rattle.tracing.proofs.Cursor.next.Goals as goal
 
 pub returns-then-found-path : goal.returns-then-found-path

@@ -1,4 +1,4 @@
-use Rattle.std.proofs.Common.{◌<◌, ◌≤◌, length, get_or, sym, ◌∙◌, arith}
+use Rattle.std.proofs.Common.{◌<◌, length, arith}
 use Rattle.std.proofs.lemmas.List.{get_or_read}
 use Rattle.tracing.proofs.Cells.{passed_first, passed_all, passed_more, passed_end, found}
 use Rattle.tracing.proofs.blocks.further.Goals as goal

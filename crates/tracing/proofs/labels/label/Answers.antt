@@ -1,4 +1,4 @@
-use Rattle.std.proofs.Common.{◌≡◌, ◌⊎◌, sym, ap, inl, inr, arith}
+use Rattle.std.proofs.Common.{sym, ap, inl, inr, arith}
 use Rattle.sweeps.specs.declared.Arc.{Arc}
 use Rattle.tracing.proofs.Cells.{arc_past, arc_in}
 use Rattle.tracing.proofs.labels.label.Goals as goal

@@ -1,5 +1,4 @@
 use Rattle.std.proofs.Common.{arith}
-use Rattle.tracing.specs.Labels.{read}
 use Rattle.tracing.proofs.Turning.{going_none, going_more, going_home, going_full, going_stuck}
 use Rattle.tracing.proofs.turns.descend.Goals as goal
 
