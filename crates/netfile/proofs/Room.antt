@@ -13,7 +13,7 @@ use Rattle.netfile.specs.declared.kind.Kind.{Kind}
 use Rattle.netfile.specs.declared.kind.Kind.TheVariants.{Sum, ReversedSum, SumThenSum, SumThenReversed}
 use Rattle.netfile.specs.declared.progress.Progress.{Progress}
 use Rattle.netfile.specs.Fields.{pair}
-use Rattle.netfile.specs.Judging.{put_of, put_judged, arc_judged}
+use Rattle.netfile.specs.Judging.{put_of, arc_judged}
 
 passed : {X : Type 0} (b : Bool) (x : X) (o : Option X) → cond b (Some x) o ≡ None → (b ≡ false) × (o ≡ None)
 passed true x o e = absurd (let z : ◌≡◌ {A = ℕ} 0 1 = cc in omega arith)

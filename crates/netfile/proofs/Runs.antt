@@ -1,5 +1,5 @@
 -- Records read one after another.
-use Rattle.std.proofs.Common.{◌≡◌, ℕ, ◌+◌, ◌-◌, ◌<◌, ◌≤◌, List, [], ◌∷◌, ◌++◌, length, take, drop, Ok, Err, sym, refl, ap, ◌∙◌, subst, append_assoc, append-nil, arith, length-drop, length-take, take_all, take-add}
+use Rattle.std.proofs.Common.{◌≡◌, ℕ, ◌+◌, ◌-◌, ◌<◌, ◌≤◌, List, [], ◌∷◌, ◌++◌, length, take, drop, Ok, Err, sym, refl, ap, ◌∙◌, subst, append_assoc, append-nil, arith, length-drop, take_all, take-add}
 use Rattle.std.proofs.lemmas.List.{length-take-le}
 use Rattle.std.proofs.lemmas.Bool.{le-ltb}
 use Rattle.netfile.specs.declared.progress.Progress.{Progress}
@@ -8,10 +8,9 @@ use Rattle.netfile.specs.declared.progress.Stage.{Stage}
 use Rattle.netfile.specs.declared.progress.Stage.TheVariants.{Start, Arcs, Queries, Over}
 use Rattle.netfile.specs.declared.reason.Reason.{Reason}
 use Rattle.netfile.specs.declared.reason.Reason.TheVariants.{Trailing}
-use Rattle.netfile.specs.declared.reason.Fault.{Fault}
 use Rattle.netfile.specs.declared.records.Mark.{Mark}
 use Rattle.netfile.specs.declared.records.Record.{Record}
-use Rattle.netfile.specs.Records.{found, body_at, body_size, mark_of, body_of}
+use Rattle.netfile.specs.Records.{found, body_at, body_size, mark_of}
 use Rattle.netfile.specs.Judging.{start_of_file, advanced, judged_next, Taken}
 use Rattle.netfile.specs.Readings.{Entry, entry_bytes, written, Good, Run, Accepts, Stops, RefusedBy, Refuses}
 use Rattle.netfile.proofs.Heads.{Headed, headed, headed_bytes}

@@ -1,5 +1,5 @@
 -- Every file has a reading.
-use Rattle.std.proofs.Common.{◌≡◌, ℕ, zero, suc, ◌+◌, ◌-◌, ◌<◌, ◌≤◌, Bool, true, false, ltb, ◌⊎◌, List, [], ◌∷◌, ◌++◌, length, take, drop, Ok, Err, Result, sym, refl, ap, ◌∙◌, subst, inl, inr, arith, length-drop}
+use Rattle.std.proofs.Common.{◌≡◌, ℕ, zero, suc, ◌+◌, ◌-◌, ◌<◌, ◌≤◌, Bool, true, false, ltb, ◌⊎◌, List, length, drop, Ok, Err, Result, sym, refl, ap, ◌∙◌, subst, inl, inr, arith, length-drop}
 use Rattle.std.proofs.lemmas.Bool.{cases_lt, ltb-false}
 use Rattle.netfile.specs.declared.progress.Stage.{Stage}
 use Rattle.netfile.specs.declared.progress.Stage.TheVariants.{Start, Arcs, Queries, Over}
@@ -9,8 +9,8 @@ use Rattle.netfile.specs.declared.reason.Reason.{Reason}
 use Rattle.netfile.specs.declared.reason.Reason.TheVariants.{Trailing, TooManyBytes}
 use Rattle.netfile.specs.declared.records.Mark.{Mark}
 use Rattle.netfile.specs.Records.{body_size, body_at, found}
-use Rattle.netfile.specs.Judging.{start_of_file, advanced, advanced_by, judged_next}
-use Rattle.netfile.specs.Readings.{Entry, written, Stops, RefusedBy, Reading, accepted, refused, Reads, OneReading, ReadBack}
+use Rattle.netfile.specs.Judging.{start_of_file, advanced, advanced_by}
+use Rattle.netfile.specs.Readings.{written, Stops, RefusedBy, Reading, accepted, refused, Reads, OneReading, ReadBack}
 use Rattle.netfile.proofs.Runs.{Come, come_none, come_more, stops, breaks, trailing, accepts}
 use Rattle.netfile.proofs.Unique.{one_at_most}
 

@@ -1,18 +1,16 @@
 -- A file has one reading at most.
-use Rattle.std.proofs.Common.{◌≡◌, ℕ, ◌+◌, ◌<◌, ◌≤◌, Bool, true, false, ltb, List, [], ◌∷◌, ◌++◌, length, take, drop, Ok, Err, Result, sym, refl, ap, ◌∙◌, subst, append_assoc, append-nil, arith, take-append-drop}
+use Rattle.std.proofs.Common.{◌≡◌, ℕ, ◌<◌, Bool, true, false, ltb, List, [], ◌∷◌, ◌++◌, length, take, drop, Ok, Err, sym, refl, ap, ◌∙◌, subst, append_assoc, append-nil, arith, take-append-drop}
 use Rattle.std.proofs.lemmas.List.{append_cancel_left, length-take-le}
-use Rattle.std.proofs.lemmas.Bool.{le-ltb, ltb-true, both_ways}
-use Rattle.netfile.specs.declared.kind.Kind.{Kind}
+use Rattle.std.proofs.lemmas.Bool.{ltb-true, both_ways}
 use Rattle.netfile.specs.declared.progress.Stage.{Stage}
 use Rattle.netfile.specs.declared.progress.Stage.TheVariants.{Start, Arcs, Queries, Over}
 use Rattle.netfile.specs.declared.progress.Progress.{Progress}
 use Rattle.netfile.specs.declared.progress.Limits.{Limits}
 use Rattle.netfile.specs.declared.reason.Reason.{Reason}
-use Rattle.netfile.specs.declared.reason.Reason.TheVariants.{Trailing}
 use Rattle.netfile.specs.declared.reason.Fault.{Fault}
 use Rattle.netfile.specs.declared.records.Mark.{Mark}
 use Rattle.netfile.specs.declared.records.Mark.TheVariants.{Network, Arc, Query, Target, End}
-use Rattle.netfile.specs.Records.{letters, body_size, body_at, in_order, found}
+use Rattle.netfile.specs.Records.{letters, body_at, in_order, found}
 use Rattle.netfile.specs.Judging.{start_of_file, advanced, advanced_by, judged_next}
 use Rattle.netfile.specs.Readings.{Entry, entry_bytes, written, Good, Run, Accepts, Stops, Breaks, RefusedBy, Reading, accepted, refused, Reads}
 use Rattle.netfile.proofs.Heads.{found_again, body_again}

@@ -1,5 +1,5 @@
 -- What each record does to the reading so far.
-use Rattle.std.specs.Prelude.{◌≡◌, ℕ, ◌+◌, Bool, true, false, cond, ◌||◌, List, length, Some, None, Ok, Err, Option, Result, ◌==◌, nat_lt, slice_index}
+use Rattle.std.specs.Prelude.{◌≡◌, ℕ, ◌+◌, cond, ◌||◌, List, Some, None, Ok, Err, Option, Result, ◌==◌, nat_lt, slice_index}
 use Rattle.measure.specs.Algebra.{Algebra}
 use Rattle.measure.specs.Sums.{sum_algebra}
 use Rattle.measure.specs.Piles.{reversed_algebra, then_algebra}

@@ -1,5 +1,5 @@
 -- One item more in a line.
-use Rattle.std.proofs.Common.{◌≡◌, ℕ, ◌+◌, ◌<◌, List, [], ◌∷◌, ◌++◌, length, get_or, take, codes, sym, refl, ap, ◌∙◌, subst, arith}
+use Rattle.std.proofs.Common.{◌≡◌, ℕ, ◌+◌, ◌<◌, List, [], ◌∷◌, ◌++◌, length, get_or, take, codes, sym, refl, ap, ◌∙◌, arith}
 use Rattle.columns.specs.Columnar.{Columnar}
 use Rattle.report.specs.Lists.{row_listed}
 use Rattle.std.specs.List.{flat_map}

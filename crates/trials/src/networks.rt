@@ -114,7 +114,7 @@ fn arc_ends(heap: Global, numbers: &mut Numbers, nodes: usize) -> Result<Vec<usi
             ends.push(numbers.one_to(nodes))?;
         }
     }
-    ends.sort();
+    ends.sort()?;
     Ok(ends)
 }
 

@@ -41,7 +41,7 @@ pub fn walks_found(
     })?;
     for at in 0..MOST_ENDINGS {
         let Some(ending) = endings.get(at).copied() else {
-            walks.sort();
+            walks.sort()?;
             return Ok(Some(walks));
         };
         if ending.node == network.source && row.contains(&ending.cost) {

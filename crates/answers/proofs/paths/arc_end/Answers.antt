@@ -1,4 +1,4 @@
-use Rattle.std.proofs.Common.{◌⊎◌, inl, inr}
+use Rattle.std.proofs.Common.{inl, inr}
 use Rattle.answers.proofs.Ends.{end_past, end_none}
 use Rattle.answers.proofs.paths.arc_end.Goals as goal
 

@@ -1,4 +1,4 @@
-use Rattle.std.proofs.Common.{◌≡◌, ◌∷◌, sym, ap, ◌∙◌, arith, take_all}
+use Rattle.std.proofs.Common.{◌∷◌, ap, ◌∙◌, arith, take_all}
 use Rattle.answers.specs.Paths.{ends_of}
 use Rattle.answers.proofs.Ends.{nodes_more}
 use Rattle.answers.proofs.paths.path_nodes.Goals as goal

@@ -1,10 +1,10 @@
-use Rattle.std.proofs.Common.{◌≡◌, ℕ, ◌+◌, ◌-◌, ◌<◌, ◌≤◌, length, drop, Err, sym, refl, ap, ◌∙◌, subst, arith, length-drop, rules}
+use Rattle.std.proofs.Common.{◌≡◌, ◌+◌, ◌<◌, ◌≤◌, length, drop, sym, ap, ◌∙◌, arith, length-drop}
 use Rattle.std.proofs.lemmas.List.{take_rest}
 use Rattle.std.proofs.lemmas.Bool.{both_ways}
 use Rattle.netfile.specs.declared.progress.Stage.TheVariants.{Over}
 use Rattle.netfile.specs.Records.{body_size}
 use Rattle.netfile.specs.Judging.{judged_next}
-use Rattle.netfile.proofs.Runs.{Come, come_none, taken_more, stops, breaks, trailing, accepts}
+use Rattle.netfile.proofs.Runs.{Come, taken_more, stops, breaks, trailing, accepts}
 use Rattle.netfile.proofs.checking.walk.Goals as goal
 use Rattle.netfile.proofs.checking.walk.Goals.{in-Over, in_default}
 

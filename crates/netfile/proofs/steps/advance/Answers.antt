@@ -1,4 +1,4 @@
-use Rattle.std.proofs.Common.{◌<◌, sym, ◌∙◌, arith, rules}
+use Rattle.std.proofs.Common.{◌<◌, sym, ◌∙◌, rules}
 use Rattle.netfile.proofs.Room.{arc_room}
 use Rattle.netfile.proofs.steps.advance.Goals as goal
 

@@ -1,4 +1,4 @@
-use Rattle.std.proofs.Common.{◌≡◌, ℕ, List, ◌++◌, IfOk, string_bytes, codes, decimal, sym, ◌∙◌, subst, rules, eqb-true}
+use Rattle.std.proofs.Common.{◌≡◌, ℕ, List, ◌++◌, IfOk, string_bytes, codes, decimal, sym, ◌∙◌, subst, eqb-true}
 use Rattle.report.proofs.Listing.{empty_listed}
 use Rattle.report.proofs.lines.row_line.Goals as goal
 

@@ -1,4 +1,4 @@
-use Rattle.std.proofs.Common.{◌≡◌, ◌++◌, codes, sym, refl, ap, ◌∙◌, arith, take_all, rules}
+use Rattle.std.proofs.Common.{◌++◌, codes, ap, ◌∙◌, arith, take_all}
 use Rattle.report.specs.Lists.{length_text, lengths_listed}
 use Rattle.report.proofs.Listing.{item_more}
 use Rattle.report.proofs.texts.lengths_text.Goals as goal

@@ -1,4 +1,4 @@
-use Rattle.std.proofs.Common.{◌≡◌, ℕ, ◌++◌, codes, decimal, sym, refl, ap, ◌∙◌, arith, take_all, rules}
+use Rattle.std.proofs.Common.{ℕ, ◌++◌, codes, decimal, ap, ◌∙◌, arith, take_all}
 use Rattle.report.specs.Lists.{nodes_listed}
 use Rattle.report.proofs.Listing.{item_more}
 use Rattle.report.proofs.texts.nodes_text.Goals as goal
