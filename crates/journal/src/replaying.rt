@@ -1,5 +1,5 @@
 // Whole lists of calls on a new session, with the entries of the log on the heap.
-ghost use Rattle.std.specs.Prelude.{◌≡◌, ℕ, ◌≤◌, List, length, take, IfOk};
+ghost use Rattle.std.specs.Prelude.{◌≡◌, ℕ, ◌≤◌, List, take, IfOk};
 ghost use Rattle.journal.specs.Answers.{nodes_said, path_said};
 ghost use Rattle.journal.specs.Logs.{Sizes};
 ghost use Rattle.journal.specs.Performs.{tables, sizes_of, logged, width};

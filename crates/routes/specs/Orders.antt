@@ -43,8 +43,8 @@ module _ {V : Type 0} {m : Algebra V} (laws : Laws m) where
   by_number : (a b : Route V) → m.compare a.length b.length ≡ Equal → a.number < b.number → route_compare m a b ≡ Less
   by_number a b e h = ap (λ o. chained o (number_compare a.number b.number)) e ∙ less_number a.number b.number h
 
-  parts : (a b : Route V) → route_compare m a b ≡ Less → Before m a.length b.length ⊎ ((m.compare a.length b.length ≡ Equal) × (a.number < b.number))
-  parts a b e = ⊎_elim inl (λ h. inr (h.0, number_less a.number b.number h.1)) (chained_less (m.compare a.length b.length) (number_compare a.number b.number) e)
+  decided_by : (a b : Route V) → route_compare m a b ≡ Less → Before m a.length b.length ⊎ ((m.compare a.length b.length ≡ Equal) × (a.number < b.number))
+  decided_by a b e = ⊎_elim inl (λ h. inr (h.0, number_less a.number b.number h.1)) (chained_less (m.compare a.length b.length) (number_compare a.number b.number) e)
 
   pub transitive : (a b c : Route V) → route_compare m a b ≡ Less → route_compare m b c ≡ Less → route_compare m a c ≡ Less
   transitive a b c p q =
@@ -52,15 +52,15 @@ module _ {V : Type 0} {m : Algebra V} (laws : Laws m) where
       (λ x. ⊎_elim
       (λ y. by_length a c (laws.transitive a.length b.length c.length x y))
       (λ y. by_length a c (subst (Before m a.length) (laws.same b.length c.length y.0) x))
-      (parts b c q))
+      (decided_by b c q))
       (λ x. ⊎_elim
       (λ y. by_length a c (subst (λ v. Before m v c.length) (sym (laws.same a.length b.length x.0)) y))
       (λ y. by_number a c (subst (λ v. m.compare v c.length ≡ Equal) (sym (laws.same a.length b.length x.0)) y.0) (let u = x.1 in let w = y.1 in omega arith))
-      (parts b c q))
-      (parts a b p)
+      (decided_by b c q))
+      (decided_by a b p)
 
   before : (a b : Route V) → route_compare m a b ≡ Less → NotAfter m a b
-  before a b e = ⊎_elim inl (λ h. inr (laws.same a.length b.length h.0, (let l = h.1 in omega arith))) (parts a b e)
+  before a b e = ⊎_elim inl (λ h. inr (laws.same a.length b.length h.0, (let l = h.1 in omega arith))) (decided_by a b e)
 
   pub total_order : IsTotalOrder (route_compare m)
   total_order = record {

@@ -18,7 +18,7 @@ use Rattle.walks.proofs.Tight.{head_once}
 use Rattle.sweeps.specs.Tables.{start_of, cells, count_of, InOrder, Whether}
 use Rattle.sweeps.specs.Places.{is_same}
 use Rattle.sweeps.specs.Passes.{Bounds, RowsFill, AtRest}
-use Rattle.sweeps.specs.Firsts.{told, set_against, over, over_at, Lagging}
+use Rattle.sweeps.specs.Firsts.{told, set_against, compared_over, over_at, Lagging}
 use Rattle.sweeps.specs.Ranks.{first_length_of, comes_to, links, tight_at, rank_of, Ranked}
 use Rattle.sweeps.proofs.Working.{cell_of, cells_long}
 use Rattle.sweeps.proofs.Noding.{formed_of}
@@ -33,7 +33,7 @@ links_tell m x y z true true h = (refl, refl, h)
 links_tell m x y z true false h = absurd (false≢true h)
 links_tell m x y z false q h = absurd (false≢true h)
 
-over_tell : {V : Type 0} (m : Algebra V) (test : Ordering → Bool) (x y z : V) (o p q : Bool) → told test (cond o (over m x (cond p (Some y) None) (cond q (Some z) None)) None) ≡ true
+over_tell : {V : Type 0} (m : Algebra V) (test : Ordering → Bool) (x y z : V) (o p q : Bool) → told test (cond o (compared_over m x (cond p (Some y) None) (cond q (Some z) None)) None) ≡ true
     → (o ≡ true) × (p ≡ true) × (q ≡ true) × (told test (set_against m (joined m y x) z) ≡ true)
 over_tell m test x y z true true true h = (refl, refl, refl, h)
 over_tell m test x y z true true false h = absurd (false≢true h)

@@ -18,19 +18,19 @@ module _ {V : Type 0} (m : Algebra V) where
   set_against None z = None
 
   -- how a start's first length joined with x compares with an end's first length, if all three are there
-  abbrev pub over : V → Option V → Option V → Option Ordering
-  over x None o = None
-  over x (Some y) None = None
-  over x (Some y) (Some z) = set_against (joined m y x) z
+  abbrev pub compared_over : V → Option V → Option V → Option Ordering
+  compared_over x None o = None
+  compared_over x (Some y) None = None
+  compared_over x (Some y) (Some z) = set_against (joined m y x) z
 
   module _ (k : ℕ) (values : List V) (counts : List ℕ) where
     -- how what comes over an open arc compares with the first length of its end
     abbrev pub over_arc : Arc → V → Option Ordering
-    over_arc arc x = cond arc.«open» (over x (first_length_of m k values counts arc.start) (first_length_of m k values counts arc.end)) None
+    over_arc arc x = cond arc.«open» (compared_over x (first_length_of m k values counts arc.start) (first_length_of m k values counts arc.end)) None
 
 module _ {V : Type 0} (m : Algebra V) (net : Network V) (k : ℕ) (values : List V) (counts : List ℕ) where
   abbrev pub over_at : ℕ → Option Ordering
-  over_at a = cond (net.is_open a) (over m (net.arc_length a) (first_length_of m k values counts (net.start a)) (first_length_of m k values counts (net.end a))) None
+  over_at a = cond (net.is_open a) (compared_over m (net.arc_length a) (first_length_of m k values counts (net.start a)) (first_length_of m k values counts (net.end a))) None
 
   -- an open arc brings its end a length before the first one there
   pub record Lagging : Type 0 where
