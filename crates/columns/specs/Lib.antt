@@ -1,4 +1,5 @@
 pub mod Columnar
+pub mod Kinds
 pub mod Tables
 pub mod Text
 pub mod Inverses

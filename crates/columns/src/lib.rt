@@ -9,10 +9,12 @@ ghost use Rattle.columns.specs.Inverses.{sum_inverse, reversed_inverse, then_inv
 
 use measure::{LARGEST, Measure, Reversed, Sum, Then};
 
+mod kind;
 #[cfg(test)]
 mod tests;
 mod text;
 
+pub use kind::{Kind, UnknownKind};
 pub use text::column_text;
 
 // A measure that also tells a value's whole numbers and builds the value from them.

@@ -86,12 +86,12 @@ fn compare<M: Columns>(rt: &HostRuntime, text: &str) -> Result<(), Failure> {
 
 // Compares the routes of a text whose first line names their kind.
 fn compare_as(rt: &HostRuntime, kind: &str, text: &str) -> Result<(), Failure> {
-    match Kind::named(kind) {
-        Some(Kind::Sum) => compare::<Sum>(rt, text),
-        Some(Kind::Reversed) => compare::<Reversed<Sum>>(rt, text),
-        Some(Kind::MoneyThenMinutes) => compare::<Then<Sum, Sum>>(rt, text),
-        Some(Kind::MoneyThenReversed) => compare::<Then<Sum, Reversed<Sum>>>(rt, text),
-        None => {
+    match kind.parse::<Kind>() {
+        Ok(Kind::Sum) => compare::<Sum>(rt, text),
+        Ok(Kind::ReversedSum) => compare::<Reversed<Sum>>(rt, text),
+        Ok(Kind::SumThenSum) => compare::<Then<Sum, Sum>>(rt, text),
+        Ok(Kind::SumThenReversed) => compare::<Then<Sum, Reversed<Sum>>>(rt, text),
+        Err(_) => {
             println!(rt;
                 "'{kind}' is no kind: sum, reversed, money then minutes, money then reversed"
             )?;

@@ -48,5 +48,5 @@ pub trait Measure: Copy {
 pub fn before<M: Measure>(a: &M, b: &M) -> bool
     ensures { result ≡ is_lt (M.Measure.algebra.compare a.now b.now) }
 {
-    matches!(a.compare(b), Ordering::Less)
+    a.compare(b).is_lt()
 }

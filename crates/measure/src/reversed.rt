@@ -5,7 +5,7 @@ use super::Measure;
 use std::cmp::Ordering;
 
 // A measure with before and after exchanged: the longest comes first.
-#[derive(Clone, Copy)]
+#[derive(Clone, Copy, PartialEq, Eq, Debug)]
 pub struct Reversed<M> {
     pub value: M,
 }

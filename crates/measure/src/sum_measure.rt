@@ -44,12 +44,10 @@ impl Measure for Sum {
     }
 
     fn join(&self, other: &Sum) -> Option<Sum> {
-        let present = self.magnitude() + other.magnitude() <= LARGEST;
-        if present {
-            Some(Sum::added(*self, *other))
-        } else {
-            None
+        if self.magnitude() + other.magnitude() > LARGEST {
+            return None;
         }
+        Some(Sum::added(*self, *other))
     }
 
     fn compare(&self, other: &Sum) -> Ordering {

@@ -5,7 +5,7 @@ use super::{LARGEST, Measure};
 use std::cmp::Ordering;
 
 // A value of each of two measures: the second decides where the first parts are the same.
-#[derive(Clone, Copy)]
+#[derive(Clone, Copy, PartialEq, Eq, Debug)]
 pub struct Then<F, S> {
     pub first: F,
     pub second: S,

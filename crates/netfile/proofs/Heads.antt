@@ -1,7 +1,7 @@
 -- The record at the head of some bytes: what is known where one is found, and that a good one is found.
 use Rattle.std.proofs.Common.{◌≡◌, ℕ, suc, ◌+◌, ◌≤◌, Bool, true, false, cond, ◌&&◌, eqb, ltb, ◌⊎◌, List, [], ◌∷◌, ◌++◌, length, get_or, take, drop, Some, None, Ok, Err, Option, sym, refl, ap, ◌∙◌, subst, inl, inr, arith, length-append, take_at}
 use Rattle.std.proofs.lemmas.Bool.{and_parts, eqb-true, ltb-false, le-ltb, cond-true, cond-false}
-use Rattle.netfile.specs.declared.kind.Kind.{Kind}
+use Rattle.columns.specs.declared.kind.Kind.{Kind}
 use Rattle.netfile.specs.declared.progress.Stage.{Stage}
 use Rattle.netfile.specs.declared.reason.Reason.TheVariants.{CutShort, BadMark}
 use Rattle.netfile.specs.declared.records.Mark.{Mark}

@@ -9,8 +9,8 @@ use Rattle.columns.specs.Tables.{sum_columns, reversed_columns, then_columns}
 use Rattle.sweeps.specs.declared.refusal.Refusal.{Refusal}
 use Rattle.sweeps.specs.declared.refusal.Refusal.TheVariants.{ArcEnd, SelfArc, ArcOrder, TooLong, TablesFull}
 use Rattle.session.specs.Drafts.{outside}
-use Rattle.netfile.specs.declared.kind.Kind.{Kind}
-use Rattle.netfile.specs.declared.kind.Kind.TheVariants.{Sum, ReversedSum, SumThenSum, SumThenReversed}
+use Rattle.columns.specs.declared.kind.Kind.{Kind}
+use Rattle.columns.specs.declared.kind.Kind.TheVariants.{Sum, ReversedSum, SumThenSum, SumThenReversed}
 use Rattle.netfile.specs.declared.progress.Progress.{Progress}
 use Rattle.netfile.specs.Fields.{pair}
 use Rattle.netfile.specs.Judging.{put_of, arc_judged}

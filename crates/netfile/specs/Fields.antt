@@ -2,8 +2,8 @@
 use Rattle.std.specs.Prelude.{ℕ, ◌+◌, ◌*◌, cond, List, [], ◌∷◌, ℤ, Some, None, Option, ◌==◌, slice_index}
 use Rattle.std.specs.Int.{w32}
 use Rattle.std.proofs.Common.{to_z}
-use Rattle.netfile.specs.declared.kind.Kind.{Kind}
-use Rattle.netfile.specs.declared.kind.Kind.TheVariants.{Sum, ReversedSum, SumThenSum, SumThenReversed}
+use Rattle.columns.specs.declared.kind.Kind.{Kind}
+use Rattle.columns.specs.declared.kind.Kind.TheVariants.{Sum, ReversedSum, SumThenSum, SumThenReversed}
 
 -- two bytes as a whole number
 abbrev pub pair : List ℕ → ℕ → ℕ
@@ -12,17 +12,6 @@ pair b at = slice_index b at * 256 + slice_index b (at + 1)
 -- four bytes in two's complement
 abbrev pub word : List ℕ → ℕ → ℤ
 word b at = to_z w32 (slice_index b at * 16777216 + slice_index b (at + 1) * 65536 + slice_index b (at + 2) * 256 + slice_index b (at + 3))
-
--- the kind of this number
-abbrev pub kind_of : ℕ → Option Kind
-kind_of n = cond (n == 1) (Some Sum) (cond (n == 2) (Some ReversedSum) (cond (n == 3) (Some SumThenSum) (cond (n == 4) (Some SumThenReversed) None)))
-
--- how many columns its lengths have
-abbrev pub width : Kind → ℕ
-width Sum = 1
-width ReversedSum = 1
-width SumThenSum = 2
-width SumThenReversed = 2
 
 -- the columns of an arc's length, behind its two ends
 abbrev pub columns_of : Kind → List ℕ → List ℤ

@@ -8,8 +8,8 @@ use Rattle.columns.specs.Tables.{sum_columns, reversed_columns, then_columns}
 use Rattle.sweeps.specs.declared.refusal.Refusal.{Refusal}
 use Rattle.sweeps.specs.declared.refusal.Refusal.TheVariants.{TooLong}
 use Rattle.session.specs.Drafts.{outside, put_verdict}
-use Rattle.netfile.specs.declared.kind.Kind.{Kind}
-use Rattle.netfile.specs.declared.kind.Kind.TheVariants as kind
+use Rattle.columns.specs.declared.kind.Kind.{Kind}
+use Rattle.columns.specs.declared.kind.Kind.TheVariants as kind
 use Rattle.netfile.specs.declared.progress.Stage.{Stage}
 use Rattle.netfile.specs.declared.progress.Stage.TheVariants.{Start, Arcs, Queries, Over}
 use Rattle.netfile.specs.declared.progress.Progress.{Progress}
@@ -19,7 +19,8 @@ use Rattle.netfile.specs.declared.reason.Reason.TheVariants as why
 use Rattle.netfile.specs.declared.records.Mark.{Mark}
 use Rattle.netfile.specs.declared.records.Mark.TheVariants.{Network, Arc, Query, Target, End}
 use Rattle.netfile.specs.declared.records.Record.{Record}
-use Rattle.netfile.specs.Fields.{pair, kind_of, columns_of}
+use Rattle.columns.specs.Kinds.{kind_of}
+use Rattle.netfile.specs.Fields.{pair, columns_of}
 use Rattle.netfile.specs.Records.{found, Found, mark_of, body_of, body_at}
 
 abbrev pub start_of_file : Progress

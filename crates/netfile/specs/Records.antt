@@ -1,6 +1,6 @@
 -- The records of a file, as parts of its bytes.
 use Rattle.std.specs.Prelude.{◌≡◌, ℕ, ◌+◌, ◌*◌, Bool, true, false, cond, ◌&&◌, List, [], ◌∷◌, length, take, drop, Some, None, Ok, Err, Option, Result, ◌==◌, nat_lt, slice_index}
-use Rattle.netfile.specs.declared.kind.Kind.{Kind}
+use Rattle.columns.specs.declared.kind.Kind.{Kind}
 use Rattle.netfile.specs.declared.progress.Stage.{Stage}
 use Rattle.netfile.specs.declared.progress.Stage.TheVariants.{Start, Arcs, Queries, Over}
 use Rattle.netfile.specs.declared.reason.Reason.{Reason}
@@ -9,7 +9,7 @@ use Rattle.netfile.specs.declared.records.Mark.{Mark}
 use Rattle.netfile.specs.declared.records.Mark.TheVariants.{Network, Arc, Query, Target, End}
 use Rattle.netfile.specs.declared.records.Record.{Record}
 use Rattle.netfile.specs.declared.records.Record.TheVariants as item
-use Rattle.netfile.specs.Fields.{width}
+use Rattle.columns.specs.Kinds.{width}
 
 -- the two letters of a mark: NW, AR, QS, QT, EN
 abbrev pub letters : Mark → List ℕ

@@ -2,8 +2,7 @@
 ghost use Rattle.std.specs.Prelude.{◌≡◌, ◌≤◌, slice_index};
 ghost use Rattle.netfile.specs.Fields.{pair, word, columns_of};
 
-use super::Kind;
-use columns::Columns;
+use columns::{Columns, Kind};
 
 fn byte_at(body: &[u8], at: usize) -> u8
     ensures { result ≡ slice_index body.now at }

@@ -4,7 +4,6 @@
 mod arcs;
 mod checking;
 mod fields;
-mod kind;
 mod progress;
 mod reason;
 mod records;
@@ -12,8 +11,8 @@ mod steps;
 
 pub use arcs::arc_refusal;
 pub use checking::check;
+pub use columns::Kind;
 pub use fields::{arc_ends, arc_length, network_fields, query_fields, target_fields};
-pub use kind::Kind;
 pub use progress::{Limits, Progress, Stage};
 pub use reason::{Fault, Reason};
 pub use records::{Mark, Record, next_record};

@@ -33,7 +33,7 @@ fn advance(progress: Progress, limits: Limits, item: Record) -> Result<Progress,
     match item {
         Record::Network(body) => {
             let (nodes, number) = network_fields(body);
-            let Some(kind) = Kind::of(number) else {
+            let Ok(kind) = Kind::try_from(number) else {
                 return Err(Reason::BadField);
             };
             if nodes == 0 || nodes > MOST_NODES {

@@ -104,9 +104,9 @@ fn run(rt: &HostRuntime) -> Result<(), Failure> {
     };
     match header {
         Some((nodes, Kind::Sum)) => play::<Sum>(rt, nodes, text),
-        Some((nodes, Kind::Reversed)) => play::<Reversed<Sum>>(rt, nodes, text),
-        Some((nodes, Kind::MoneyThenMinutes)) => play::<Then<Sum, Sum>>(rt, nodes, text),
-        Some((nodes, Kind::MoneyThenReversed)) => play::<Then<Sum, Reversed<Sum>>>(rt, nodes, text),
+        Some((nodes, Kind::ReversedSum)) => play::<Reversed<Sum>>(rt, nodes, text),
+        Some((nodes, Kind::SumThenSum)) => play::<Then<Sum, Sum>>(rt, nodes, text),
+        Some((nodes, Kind::SumThenReversed)) => play::<Then<Sum, Reversed<Sum>>>(rt, nodes, text),
         None => {
             println!(rt;
                 "line 1: no network: write the number of nodes and the kind, as 'network 5 money then minutes'"

@@ -22,7 +22,7 @@ pub fn read_header(line: &str) -> Option<(usize, Kind)> {
     let rest = line.trim().strip_prefix("network ")?;
     let (nodes, kind) = rest.split_once(' ')?;
     let nodes = nodes.parse::<usize>().ok()?;
-    let kind = Kind::named(kind.trim())?;
+    let kind = kind.trim().parse::<Kind>().ok()?;
     Some((nodes, kind))
 }
 

@@ -1,4 +1,3 @@
-pub mod Kinds
 pub mod Ranking
 pub mod Reading
 pub mod Total

@@ -1,7 +1,6 @@
 // Routes of several legs: how long each is, and which comes first.
 #![tactic(auto)]
 
-mod kind;
 mod lines;
 mod ranking;
 mod reading;
@@ -9,7 +8,7 @@ mod reading;
 mod tests;
 mod total;
 
-pub use kind::Kind;
+pub use columns::Kind;
 pub use lines::{equal_line, place_line, route_line};
 pub use ranking::{Route, equally_long, rank};
 pub use reading::read_leg;

@@ -22,7 +22,7 @@ pub use solving::solve;
 pub use tables::clear;
 
 // An arc's two ends, and whether walks may take it.
-#[derive(Clone, Copy)]
+#[derive(Clone, Copy, PartialEq, Eq, Default, Debug)]
 pub struct Arc {
     pub start: u32,
     pub end: u32,
@@ -30,7 +30,7 @@ pub struct Arc {
 }
 
 // What a solve found besides the rows: how many passes it took, and whether a null circuit is reached.
-#[derive(Clone, Copy)]
+#[derive(Clone, Copy, PartialEq, Eq, Debug)]
 pub struct Solved {
     pub passes: usize,
     pub null: bool,

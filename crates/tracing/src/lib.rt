@@ -14,7 +14,7 @@ mod turns;
 pub use theorems::{paths_are_an_initial_segment, solves_can_be_traced};
 
 // A level of a path that is traced backward: the arc used there, and the place, in the row of its start, of the length that it came from.
-#[derive(Clone, Copy)]
+#[derive(Clone, Copy, PartialEq, Eq, Default, Debug)]
 pub struct Step {
     pub arc: usize,
     pub place: usize,
