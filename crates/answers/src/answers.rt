@@ -5,11 +5,11 @@ ghost use Rattle.session.specs.Nets.{Net};
 ghost use Rattle.session.specs.Settled.{SettledHolds};
 
 use super::LIMITS;
-use super::failure::Failure;
 use super::paths::path_nodes;
 use super::sessions::Session;
 use super::tables::filled;
 use columns::Columns;
+use failure::Failure;
 use netfile::{Kind, Progress, Record, arc_ends, arc_length, query_fields, step, target_fields};
 use report::{
     end_line, goes_on, path_line, row_line, solve_line, solve_refused_line, trace_line,

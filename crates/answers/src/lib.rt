@@ -1,18 +1,17 @@
 // The answers to a network file: its check, and for each of its queries the solve and the traces, printed.
 #![tactic(auto)]
 
+use failure::Failure;
 use measure::{Reversed, Sum, Then};
 use netfile::{Kind, Limits, check};
 use report::file_refused_line;
 
 mod answers;
-mod failure;
 mod paths;
 mod sessions;
 mod tables;
 
 use answers::answer;
-pub use failure::Failure;
 
 // The largest file, the most nodes, and the cells of the arc table.
 pub const LIMITS: Limits = Limits {

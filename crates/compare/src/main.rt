@@ -2,15 +2,12 @@
 #![tactic(auto)]
 
 use columns::{Columns, column_text};
+use failure::Failure;
 use measure::{Reversed, Sum, Then};
 use routes::{
     Kind, Route, equal_line, equally_long, place_line, rank, read_leg, route_length, route_line,
 };
 use std::io::Read;
-
-mod failure;
-
-use failure::Failure;
 
 // What a route's line came to.
 enum Outcome<M> {

@@ -1,7 +1,8 @@
 // Reads a network file from standard input, solves and traces as its queries ask, and prints the answers.
 #![tactic(auto)]
 
-use answers::{Failure, answer_file};
+use answers::answer_file;
+use failure::Failure;
 use std::io::Read;
 
 fn run(rt: &HostRuntime) -> Result<(), Failure> {

@@ -1,7 +1,8 @@
 // Small network files, answered one after another as `kpaths` answers one.
 #![tactic(auto)]
 
-use answers::{Failure, answer_file};
+use answers::answer_file;
+use failure::Failure;
 
 fn case(rt: &HostRuntime, name: &str, file: &[u8]) -> Result<(), Failure> {
     println!(rt; "-- {name}")?;

@@ -2,6 +2,7 @@
 #![tactic(auto)]
 
 use columns::Columns;
+use failure::Failure;
 use journal::{Call, Fault, replay};
 use measure::{Reversed, Sum, Then};
 use routes::Kind;
@@ -9,11 +10,9 @@ use session::{Arc, Step};
 use std::alloc::Global;
 use std::io::Read;
 
-mod failure;
 mod printing;
 mod reading;
 
-use failure::Failure;
 use printing::print_entry;
 use reading::{Line, read_header, read_line};
 

@@ -1,6 +1,6 @@
 // The entries of a log as lines.
-use super::Failure;
 use columns::{Columns, column_text};
+use failure::Failure;
 use journal::{Answer, Call, Entry};
 use std::alloc::{AllocError, Global};
 
