@@ -3,20 +3,10 @@ use Rattle.std.proofs.Common.{◌≡◌, ℕ, zero, suc, ◌-◌, ◌≤◌, Lis
 use Rattle.std.specs.List.{slice_get}
 
 module _ {X : Type 0} where
-  pub nth_front : (xs ys : List X) (i : ℕ) → ¬ (slice_get xs i ≡ None) → slice_get xs i ≡ slice_get (xs ++ ys) i
-  nth_front [] ys i h = absurd (h refl)
-  nth_front (y ∷ xs) ys zero h = refl
-  nth_front (y ∷ xs) ys (suc i) h = nth_front xs ys i h
-
   pub nth_none : (xs : List X) (i : ℕ) → slice_get xs i ≡ None → length xs ≤ i
   nth_none [] i e = omega arith
   nth_none (y ∷ xs) zero e = absurd (let z : ◌≡◌ {A = ℕ} 0 1 = cc in omega arith)
   nth_none (y ∷ xs) (suc i) e = omega (arith, nth_none xs i e)
-
-  pub nth_back : (xs ys : List X) (w i : ℕ) → length xs ≡ w → w ≤ i → slice_get ys (i - w) ≡ slice_get (xs ++ ys) i
-  nth_back [] ys w i e h = ap (slice_get ys) (omega arith)
-  nth_back (y ∷ xs) ys w zero e h = absurd (omega arith)
-  nth_back (y ∷ xs) ys w (suc i) e h = ap (slice_get ys) (omega arith) ∙ nth_back xs ys (length xs) i refl (omega arith)
 
   pub nth_value : (xs : List X) (i : ℕ) (x d : X) → slice_get xs i ≡ Some x → x ≡ get_or xs i d
   nth_value [] i x d e = absurd (let z : ◌≡◌ {A = ℕ} 0 1 = cc in omega arith)

@@ -27,8 +27,8 @@ pub row_none : (cs : List ℤ) (i : ℕ) → i ≡ 0 → 0 < length cs → row_t
 row_none cs i e h = subst (λ k. row_text (take (k + 1) cs) ≡ row_text (take k cs) ++ signed_decimal (get_or cs k (pos 0))) (sym e) (row_first cs h)
 
 -- one turn of the loop, after a stroke or as the first
-pub step_more : (cs : List ℤ) (i : ℕ) → 0 < i → i < length cs → {out mid before part : List ℕ} {col : ℤ} → out ≡ mid ++ part → mid ≡ before ++ 47 ∷ [] → part ≡ signed_decimal col → col ≡ get_or cs i (pos 0) → before ≡ row_text (take i cs) → out ≡ row_text (take (i + 1) cs)
-step_more cs i p h a b d e f = let r = row_more_by_two cs i p h in cc
+pub step_more : (cs : List ℤ) (i : ℕ) → 0 < i → i < length cs → {out mid before : List ℕ} {col : ℤ} → out ≡ mid ++ signed_decimal col → mid ≡ before ++ 47 ∷ [] → col ≡ get_or cs i (pos 0) → before ≡ row_text (take i cs) → out ≡ row_text (take (i + 1) cs)
+step_more cs i p h a b e f = let r = row_more_by_two cs i p h in cc
 
-pub step_first : (cs : List ℤ) (i : ℕ) → i ≡ 0 → 0 < length cs → {out before part : List ℕ} {col : ℤ} → out ≡ before ++ part → part ≡ signed_decimal col → col ≡ get_or cs i (pos 0) → before ≡ row_text (take i cs) → out ≡ row_text (take (i + 1) cs)
-step_first cs i z h a d e f = let r = row_none cs i z h in cc
+pub step_first : (cs : List ℤ) (i : ℕ) → i ≡ 0 → 0 < length cs → {out before : List ℕ} {col : ℤ} → out ≡ before ++ signed_decimal col → col ≡ get_or cs i (pos 0) → before ≡ row_text (take i cs) → out ≡ row_text (take (i + 1) cs)
+step_first cs i z h a e f = let r = row_none cs i z h in cc

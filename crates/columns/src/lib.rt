@@ -50,14 +50,10 @@ impl Columns for Sum {
     }
 
     fn build(columns: &[i64]) -> Option<Sum> {
-        if columns.len() != 1 {
-            return None;
+        match columns {
+            [number] if number.unsigned_abs() <= LARGEST => Some(Sum::new(*number)),
+            _ => None,
         }
-        let number = columns[0];
-        if number.unsigned_abs() > LARGEST {
-            return None;
-        }
-        Some(Sum::new(number))
     }
 }
 
@@ -90,10 +86,9 @@ impl<F: Columns, S: Columns> Columns for Then<F, S> {
     }
 
     fn column(&self, i: usize) -> Option<i64> {
-        match self.first.column(i) {
-            None => self.second.column(i - F::width()),
-            found => found,
-        }
+        self.first
+            .column(i)
+            .or_else(|| self.second.column(i - F::width()))
     }
 
     fn build(columns: &[i64]) -> Option<Then<F, S>> {

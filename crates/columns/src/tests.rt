@@ -17,19 +17,12 @@ fn sum_has_one_column(rt: HostRuntime) {
 #[test]
 fn piles_have_the_columns_of_their_parts(rt: HostRuntime) -> Result<(), Fail> {
     assert_eq!(rt; Then::<Sum, Then<Reversed<Sum>, Sum>>::width(), 3);
-    match Then::<Sum, Then<Reversed<Sum>, Sum>>::build(&[2, -5, 10]) {
-        Some(pile) => {
-            assert_eq!(rt; pile.column(0), Some(2));
-            assert_eq!(rt; pile.column(1), Some(-5));
-            assert_eq!(rt; pile.column(2), Some(10));
-            assert_eq!(rt; pile.column(3), None);
-            Ok(())
-        }
-        None => {
-            assert!(rt; false);
-            Ok(())
-        },
-    }
+    let pile = Then::<Sum, Then<Reversed<Sum>, Sum>>::build(&[2, -5, 10]).ok_or("no pile")?;
+    assert_eq!(rt; pile.column(0), Some(2));
+    assert_eq!(rt; pile.column(1), Some(-5));
+    assert_eq!(rt; pile.column(2), Some(10));
+    assert_eq!(rt; pile.column(3), None);
+    Ok(())
 }
 
 #[test]

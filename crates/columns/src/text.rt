@@ -14,8 +14,7 @@ pub fn column_text<M: Columns>(heap: Global, value: &M) -> Result<String, AllocE
             text.push('/')?;
         }
         if let Some(number) = value.column(i) {
-            let part = format!(in heap; "{number}")?;
-            text.push_str(part.as_str())?;
+            write!(text, "{number}")?;
         }
     }
     Ok(text)

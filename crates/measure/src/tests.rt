@@ -2,14 +2,6 @@ use super::*;
 
 const END: i64 = 1 << 62;
 
-// The value of a join, or the least i64 where it is absent.
-fn joined_value(a: Sum, b: Sum) -> i64 {
-    match a.join(&b) {
-        Some(sum) => sum.value,
-        None => i64::MIN,
-    }
-}
-
 #[test]
 fn sum_keeps_to_its_range(rt: HostRuntime) {
     assert_eq!(rt; Sum::new(END).value, END);
@@ -21,11 +13,12 @@ fn sum_keeps_to_its_range(rt: HostRuntime) {
 
 #[test]
 fn join_is_present_up_to_the_limit(rt: HostRuntime) {
-    assert_eq!(rt; joined_value(Sum::new(END - 1), Sum::new(1)), END);
-    assert_eq!(rt; joined_value(Sum::new(END), Sum::new(1)), i64::MIN);
-    assert_eq!(rt; joined_value(Sum::new(END), Sum::new(-1)), i64::MIN);
-    assert_eq!(rt; joined_value(Sum::new(END), Sum::null()), END);
-    assert_eq!(rt; joined_value(Sum::new(4), Sum::new(-9)), -5);
+    let sum = Sum::new;
+    assert_eq!(rt; sum(END - 1).join(&sum(1)), Some(sum(END)));
+    assert_eq!(rt; sum(END).join(&sum(1)), None);
+    assert_eq!(rt; sum(END).join(&sum(-1)), None);
+    assert_eq!(rt; sum(END).join(&Sum::null()), Some(sum(END)));
+    assert_eq!(rt; sum(4).join(&sum(-9)), Some(sum(-5)));
 }
 
 #[test]
@@ -62,9 +55,9 @@ fn piles_are_measures(rt: HostRuntime) {
 
 #[test]
 fn piles_join_part_by_part(rt: HostRuntime) {
-    match pile(1, 2, 3).join(&pile(10, 20, 30)) {
-        Some(sum) => assert_eq!(rt; sum.compare(&pile(11, 22, 33)), Ordering::Equal),
-        None => assert!(rt; false),
-    }
+    assert_eq!(rt;
+        pile(1, 2, 3).join(&pile(10, 20, 30)),
+        Some(pile(11, 22, 33))
+    );
     assert!(rt; pile(END, 0, 0).join(&pile(0, 0, 1)).is_none());
 }

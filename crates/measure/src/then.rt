@@ -39,9 +39,8 @@ impl<F: Measure, S: Measure> Measure for Then<F, S> {
     }
 
     fn compare(&self, other: &Then<F, S>) -> Ordering {
-        match self.first.compare(&other.first) {
-            Ordering::Equal => self.second.compare(&other.second),
-            decided => decided,
-        }
+        self.first
+            .compare(&other.first)
+            .then_with(|| self.second.compare(&other.second))
     }
 }
