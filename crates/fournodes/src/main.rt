@@ -6,6 +6,7 @@ use columns::column_text;
 use measure::{Measure, Sum};
 use session::{Arc, Draft, Order, Refusal, Settled};
 
+// A refusal implements no `Error`, so `?` alone does not take it.
 fn refused(why: Refusal) -> anyhow::Error {
     anyhow!("refused with {}", why.number())
 }

@@ -20,6 +20,7 @@ const NODES: usize = 1000;
 // How often each solve is timed.
 const TURNS: u32 = 5;
 
+// A refusal implements no `Error`, so `?` alone does not take it.
 fn refused(why: Refusal) -> anyhow::Error {
     anyhow!("refused with {}", why.number())
 }

@@ -86,11 +86,8 @@ impl Style {
         } else {
             0
         };
-        let climbing = Cost {
-            first: climb,
-            second: 0,
-        };
-        (Cost { first, second } + climbing) * self.unit
+        let first = first.saturating_add(climb);
+        Cost { first, second } * self.unit
     }
 }
 

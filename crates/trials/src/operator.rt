@@ -42,7 +42,7 @@ impl<'a, M: Columns> Tables<'a, M> {
     // A draft with the network's arcs.
     fn draft(&mut self) -> Result<Draft, Refusal> {
         let mut draft = Draft::new(self.network.nodes)?;
-        for arc in self.network.arcs.iter() {
+        for arc in &self.network.arcs {
             let length = arc.cost.length(self.network.kind).ok_or(Refusal::TooLong)?;
             let number = draft.put(
                 &mut self.arcs,

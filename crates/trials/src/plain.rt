@@ -34,7 +34,7 @@ impl<'a> Firsts<'a> {
     // One round over the open arcs; tells whether it changed a length.
     fn lower(&mut self) -> Result<bool, AllocError> {
         let mut changed = false;
-        for arc in self.network.arcs.iter() {
+        for arc in &self.network.arcs {
             if arc.open
                 && let Some(start) = self.of(arc.start)
             {
@@ -65,7 +65,7 @@ impl<'a> Firsts<'a> {
     // Whether a null circuit is reached: whether arcs that add null lead from some node back to it.
     pub fn null_circuit(&self, heap: Global) -> Result<bool, AllocError> {
         let mut joined = BTreeSet::new(heap);
-        for arc in self.network.arcs.iter() {
+        for arc in &self.network.arcs {
             if self.reduced(arc) == Some(NULL) {
                 joined.insert((arc.start, arc.end))?;
             }
@@ -99,7 +99,7 @@ impl<'a> Firsts<'a> {
                 break;
             };
             if self.enter(label, &mut rows)? {
-                for arc in self.network.arcs.iter() {
+                for arc in &self.network.arcs {
                     if arc.start == label.node
                         && let Some(more) = self.reduced(arc)
                     {
