@@ -35,11 +35,8 @@ order_equal : (w f x g : ℕ) → order w f x g ≡ Equal → (w ≡ x) × (f �
 order_equal w f x g h = grind (arith, nat_tests)
 
 -- as much added to both weights and to both fuels
-order_kept : (w f x g y h : ℕ) → order w f x g ≡ Less → order (w + y) (f + h) (x + y) (g + h) ≡ Less
-order_kept w f x g y h p = grind (arith, nat_tests)
-
-order_moved : (w f x g : ℕ) {w' f' x' g' : ℕ} → w' ≡ w → f' ≡ f → x' ≡ x → g' ≡ g → order w f x g ≡ Less → order w' f' x' g' ≡ Less
-order_moved w f x g p q r s h = (λ j. order (p j) (q j) (r j) (s j)) ∙ h
+order_kept : (w f x g y h : ℕ) {w' f' x' g' : ℕ} → w' ≡ w + y → f' ≡ f + h → x' ≡ x + y → g' ≡ g + h → order w f x g ≡ Less → order w' f' x' g' ≡ Less
+order_kept w f x g y h p q r s k = grind (arith, nat_tests)
 
 -- a join that is present has the sums of its parts, and weighs as much as they
 joined_fuel : (a b : Haul) → weight a + weight b ≤ 2 ^ 62 → (haul_algebra.plus a b).fuel ≡ a.fuel + b.fuel
@@ -85,13 +82,11 @@ haul_laws = record {
   null_left = λ a. haul_same _ _ (joined_fuel (clamped 0 0) a (omega arith) ∙ omega arith) (joined_minutes (clamped 0 0) a (omega arith) ∙ omega arith);
   null_right = λ a. haul_same _ _ (joined_fuel a (clamped 0 0) (omega arith) ∙ omega arith) (joined_minutes a (clamped 0 0) (omega arith) ∙ omega arith);
   right_monotone = λ a b c p f g.
-      order_moved (weight a + weight c) (a.fuel + c.fuel) (weight b + weight c) (b.fuel + c.fuel)
-      (joined_weight a c f) (joined_fuel a c f) (joined_weight b c g) (joined_fuel b c g)
-      (order_kept (weight a) a.fuel (weight b) b.fuel (weight c) c.fuel p);
+      order_kept (weight a) a.fuel (weight b) b.fuel (weight c) c.fuel
+      (joined_weight a c f) (joined_fuel a c f) (joined_weight b c g) (joined_fuel b c g) p;
   left_monotone = λ a b c p f g.
-      order_moved (weight a + weight c) (a.fuel + c.fuel) (weight b + weight c) (b.fuel + c.fuel)
-      (joined_weight c a f ∙ add_comm _ _) (joined_fuel c a f ∙ add_comm _ _) (joined_weight c b g ∙ add_comm _ _) (joined_fuel c b g ∙ add_comm _ _)
-      (order_kept (weight a) a.fuel (weight b) b.fuel (weight c) c.fuel p);
+      order_kept (weight a) a.fuel (weight b) b.fuel (weight c) c.fuel
+      (joined_weight c a f ∙ add_comm _ _) (joined_fuel c a f ∙ add_comm _ _) (joined_weight c b g ∙ add_comm _ _) (joined_fuel c b g ∙ add_comm _ _) p;
   subadditive = λ a b f. let e = joined_weight a b f in omega arith;
 }
 
