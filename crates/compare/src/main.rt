@@ -7,51 +7,52 @@ use measure::{Reversed, Sum, Then};
 use routes::{
     Kind, Route, equal_line, equally_long, place_line, rank, read_leg, route_length, route_line,
 };
+use std::alloc::{AllocError, Global};
+use std::fmt;
 use std::io::Read;
 
-// What a route's line came to.
-enum Outcome<M> {
-    Length(M),
-    NoLeg(String),
+// Why a route has no length.
+#[derive(Drop)]
+enum NoLength<'a> {
+    NoLeg(&'a str),
     TooLong,
 }
 
-// The legs of a route from its line: the first word that is no leg ends it.
-fn read_route<M: Columns>(rt: &HostRuntime, line: &str) -> Result<Outcome<M>, Failure> {
-    let heap = rt.alloc();
-    let mut legs = Vec::new(heap);
-    for word in line.split_whitespace() {
-        match read_leg(heap, word)? {
-            Some(leg) => legs.push(leg)?,
-            None => return Ok(Outcome::NoLeg(String::from_str(heap, word)?)),
+impl fmt::Display for NoLength<'_> {
+    fn fmt<W: fmt::Write>(&self, f: &mut fmt::Formatter<W>) -> fmt::Result {
+        match self {
+            NoLength::NoLeg(word) => write!(f, "'{word}' is no length of this kind"),
+            NoLength::TooLong => write!(f, "its legs are too long to be joined"),
         }
     }
-    match route_length(legs.as_slice()) {
-        Some(length) => Ok(Outcome::Length(length)),
-        None => Ok(Outcome::TooLong),
+}
+
+// The length of a route from its line: the first word that is no leg ends it.
+fn read_route<M: Columns>(heap: Global, line: &str) -> Result<Result<M, NoLength<'_>>, AllocError> {
+    let mut legs = Vec::new(heap);
+    for word in line.split_whitespace() {
+        let Some(leg) = read_leg(heap, word)? else {
+            return Ok(Err(NoLength::NoLeg(word)));
+        };
+        legs.push(leg)?;
     }
+    Ok(route_length(&legs).ok_or(NoLength::TooLong))
 }
 
 // Prints a line for each route and answers those that have a length.
 fn measured<M: Columns>(rt: &HostRuntime, text: &str) -> Result<Vec<Route<M>>, Failure> {
     let heap = rt.alloc();
     let mut routes = Vec::new(heap);
-    let mut number: usize = 0;
-    for line in text.lines().skip(1) {
-        if line.trim().is_empty() {
-            continue;
-        }
-        number = number.saturating_add(1);
-        match read_route(rt, line)? {
-            Outcome::Length(length) => {
+    let lines = text.lines().skip(1).filter(|line| !line.trim().is_empty());
+    for (i, line) in lines.enumerate() {
+        let number = i + 1;
+        match read_route(heap, line)? {
+            Ok(length) => {
                 let shown = column_text(heap, &length)?;
-                rt.println(route_line(heap, number, shown.as_str())?)?;
+                rt.println(route_line(heap, number, &shown)?)?;
                 routes.push(Route { number, length })?;
             }
-            Outcome::NoLeg(word) => println!(rt;
-                "route {number}: '{word}' is no length of this kind"
-            )?,
-            Outcome::TooLong => println!(rt; "route {number}: its legs are too long to be joined")?,
+            Err(why) => println!(rt; "route {number}: {why}")?,
         }
     }
     Ok(routes)
@@ -61,15 +62,14 @@ fn measured<M: Columns>(rt: &HostRuntime, text: &str) -> Result<Vec<Route<M>>, F
 fn print_ranking<M: Columns>(rt: &HostRuntime, routes: &[Route<M>]) -> Result<(), Failure> {
     let heap = rt.alloc();
     rt.println("from first to last:")?;
-    let mut place: usize = 0;
-    for i in 0..routes.len() {
-        let route = &routes[i];
+    let mut place = 0;
+    for (i, route) in routes.iter().enumerate() {
         let shown = column_text(heap, &route.length)?;
         if i > 0 && equally_long(&routes[i - 1], route) {
-            rt.println(equal_line(heap, place, route.number, shown.as_str())?)?;
+            rt.println(equal_line(heap, place, route.number, &shown)?)?;
         } else {
             place = i + 1;
-            rt.println(place_line(heap, place, route.number, shown.as_str())?)?;
+            rt.println(place_line(heap, place, route.number, &shown)?)?;
         }
     }
     Ok(())
@@ -78,16 +78,19 @@ fn print_ranking<M: Columns>(rt: &HostRuntime, routes: &[Route<M>]) -> Result<()
 fn compare<M: Columns>(rt: &HostRuntime, text: &str) -> Result<(), Failure> {
     let mut routes = measured::<M>(rt, text)?;
     rank(&mut routes);
-    print_ranking(rt, routes.as_slice())
+    print_ranking(rt, &routes)
 }
 
-// Compares the routes of a text whose first line names their kind.
-fn compare_as(rt: &HostRuntime, kind: &str, text: &str) -> Result<(), Failure> {
-    match kind.parse::<Kind>() {
-        Ok(Kind::Sum) => compare::<Sum>(rt, text),
-        Ok(Kind::ReversedSum) => compare::<Reversed<Sum>>(rt, text),
-        Ok(Kind::SumThenSum) => compare::<Then<Sum, Sum>>(rt, text),
-        Ok(Kind::SumThenReversed) => compare::<Then<Sum, Reversed<Sum>>>(rt, text),
+fn main(rt: HostRuntime) -> Result<(), Failure> {
+    let mut text = String::new(rt.alloc());
+    rt.stdin().read_to_string(&mut text)?;
+    let kind = text.lines().next().unwrap_or("").trim();
+    // each arm names a type of lengths, which no value can stand for
+    match kind.parse() {
+        Ok(Kind::Sum) => compare::<Sum>(&rt, &text),
+        Ok(Kind::ReversedSum) => compare::<Reversed<Sum>>(&rt, &text),
+        Ok(Kind::SumThenSum) => compare::<Then<Sum, Sum>>(&rt, &text),
+        Ok(Kind::SumThenReversed) => compare::<Then<Sum, Reversed<Sum>>>(&rt, &text),
         Err(_) => {
             println!(rt;
                 "'{kind}' is no kind: sum, reversed, money then minutes, money then reversed"
@@ -95,18 +98,4 @@ fn compare_as(rt: &HostRuntime, kind: &str, text: &str) -> Result<(), Failure> {
             Ok(())
         }
     }
-}
-
-fn run(rt: &HostRuntime) -> Result<(), Failure> {
-    let mut text = String::new(rt.alloc());
-    rt.stdin().read_to_string(&mut text)?;
-    let text = text.as_str();
-    match text.lines().next() {
-        Some(line) => compare_as(rt, line.trim(), text),
-        None => compare_as(rt, "", text),
-    }
-}
-
-fn main(rt: HostRuntime) -> Result<(), Failure> {
-    run(&rt)
 }

@@ -6,26 +6,26 @@ use columns::column_text;
 use measure::{Measure, Sum};
 use session::{Arc, Draft, Order, Refusal, Settled};
 
-const NO_ARC: Arc = Arc {
-    start: 0,
-    end: 0,
-    open: false,
-};
-
-// Puts the arcs, each a start, an end and a length, into a draft, until one is refused.
-fn load(
-    draft: &mut Draft,
-    arcs: &mut [Arc],
-    lengths: &mut [Sum],
-    list: &[(usize, usize, i64)],
-) -> Result<(), Refusal> {
-    for (start, end, length) in list.iter().copied() {
-        draft.put(arcs, lengths, start, end, Sum::new(length))?;
-    }
-    Ok(())
+// A refusal implements no `Error`, so `?` alone does not take it.
+fn refused(why: Refusal) -> anyhow::Error {
+    anyhow!("refused with {}", why.number())
 }
 
-// Prints the row of each node.
+// A draft of arcs, each a start, an end and a length, with its tables.
+fn drafted<const N: usize>(
+    nodes: usize,
+    list: [(usize, usize, i64); N],
+) -> Result<(Draft, [Arc; N], [Sum; N]), Refusal> {
+    let mut draft = Draft::new(nodes)?;
+    let mut arcs = [Arc::default(); N];
+    let mut lengths = [Sum::null(); N];
+    for (start, end, length) in list {
+        draft.put(&mut arcs, &mut lengths, start, end, Sum::new(length))?;
+    }
+    Ok((draft, arcs, lengths))
+}
+
+// Prints the row of each node, place by place as a session tells it; the line of the crate report takes a filled row.
 fn print_rows(
     rt: &HostRuntime,
     settled: &Settled,
@@ -34,19 +34,15 @@ fn print_rows(
     values: &[Sum],
     counts: &[usize],
 ) -> anyhow::Result<()> {
-    for i in 0..nodes {
-        let node = i + 1;
+    for node in 1..=nodes {
         let mut line = format!(in rt.alloc(); "node {node} lengths")?;
-        for place in 0..k {
-            let Ok(answer) = settled.length(values, counts, node, place + 1) else {
-                return Err(anyhow!("no such place"));
-            };
-            match answer {
-                Some(length) => {
-                    line.push(' ')?;
-                    line.push_str(column_text(rt.alloc(), &length)?.as_str())?;
-                }
-                None if place == 0 => line.push_str(" none")?,
+        for place in 1..=k {
+            match settled
+                .length(values, counts, node, place)
+                .map_err(refused)?
+            {
+                Some(length) => write!(line, " {}", column_text(rt.alloc(), &length)?)?,
+                None if place == 1 => line.push_str(" none")?,
                 None => {}
             }
         }
@@ -66,20 +62,17 @@ fn show(
 ) -> anyhow::Result<Draft> {
     let mut values = [Sum::null(); 20];
     let mut counts = [0; 5];
-    let k = order.k;
-    let source = order.source;
     match draft.solve(order, arcs, lengths, &mut values, &mut counts) {
-        Ok(found) => {
-            let (settled, solved) = found;
-            let passes = solved.passes;
-            println!(rt; "solve K {k} from {source} passes {passes}")?;
-            print_rows(rt, &settled, nodes, k, &values, &counts)?;
+        Ok((settled, solved)) => {
+            println!(rt;
+                "solve K {} from {} passes {}",
+                order.k, order.source, solved.passes
+            )?;
+            print_rows(rt, &settled, nodes, order.k, &values, &counts)?;
             Ok(settled.reopen(&mut values, &mut counts))
         }
-        Err(back) => {
-            let (draft, why) = back;
-            let number = why.number();
-            println!(rt; "solve refused {number}")?;
+        Err((draft, why)) => {
+            println!(rt; "solve refused {}", why.number())?;
             Ok(draft)
         }
     }
@@ -87,8 +80,6 @@ fn show(
 
 // Four nodes with several ways to each.
 fn four_nodes(rt: &HostRuntime) -> anyhow::Result<()> {
-    let mut arcs = [NO_ARC; 6];
-    let mut lengths = [Sum::null(); 6];
     let list = [
         (3, 2, 1),
         (1, 2, 4),
@@ -97,52 +88,23 @@ fn four_nodes(rt: &HostRuntime) -> anyhow::Result<()> {
         (2, 4, 5),
         (3, 4, 7),
     ];
-    let Ok(mut draft) = Draft::new(4) else {
-        return Err(anyhow!("no draft"));
-    };
-    let Ok(order) = Order::new(3, 1) else {
-        return Err(anyhow!("no order"));
-    };
-    if load(&mut draft, &mut arcs, &mut lengths, &list).is_err() {
-        return Err(anyhow!("an arc was refused"));
-    }
-    let _draft = show(rt, draft, 4, order, &arcs, &lengths)?;
+    let (draft, arcs, lengths) = drafted(4, list).map_err(refused)?;
+    let order = Order::new(3, 1).map_err(refused)?;
+    show(rt, draft, 4, order, &arcs, &lengths)?;
     Ok(())
 }
 
 // A rebate of 4 on the way back makes a circuit before null; with that arc closed there is none.
 fn rebate(rt: &HostRuntime) -> anyhow::Result<()> {
-    let mut arcs = [NO_ARC; 2];
-    let mut lengths = [Sum::null(); 2];
-    let Ok(mut draft) = Draft::new(2) else {
-        return Err(anyhow!("no draft"));
-    };
-    let Ok(order) = Order::new(2, 1) else {
-        return Err(anyhow!("no order"));
-    };
-    if load(
-        &mut draft,
-        &mut arcs,
-        &mut lengths,
-        &[(2, 1, -4), (1, 2, 3)],
-    )
-    .is_err()
-    {
-        return Err(anyhow!("an arc was refused"));
-    }
+    let (draft, mut arcs, lengths) = drafted(2, [(2, 1, -4), (1, 2, 3)]).map_err(refused)?;
+    let order = Order::new(2, 1).map_err(refused)?;
     let draft = show(rt, draft, 2, order, &arcs, &lengths)?;
-    if draft.close(&mut arcs, 1).is_err() {
-        return Err(anyhow!("no such arc"));
-    }
-    let _draft = show(rt, draft, 2, order, &arcs, &lengths)?;
+    draft.close(&mut arcs, 1).map_err(refused)?;
+    show(rt, draft, 2, order, &arcs, &lengths)?;
     Ok(())
 }
 
-fn run(rt: &HostRuntime) -> anyhow::Result<()> {
-    four_nodes(rt)?;
-    rebate(rt)
-}
-
 fn main(rt: HostRuntime) -> anyhow::Result<()> {
-    run(&rt)
+    four_nodes(&rt)?;
+    rebate(&rt)
 }

@@ -6,10 +6,12 @@ use Rattle.std.proofs.Common.{◌∙◌, add_comm, arith, lit≤}
 use mathlib.Core.HLevel.{is_prop→PathP}
 use Rattle.std.proofs.Math.Bridge.{le_prop}
 use Rattle.std.proofs.lemmas.Bool.Decides.{nat_tests}
-use Rattle.std.specs.Ordering.{ordering_then, ordering_reverse}
+use Rattle.std.proofs.lemmas.Cmp.{nat_cmp_total, on_total, then_total, tied_itself}
+use Rattle.std.specs.Cmp.{IsTotalOrder}
+use Rattle.std.specs.Ordering.{nat_cmp, ordering_then}
 use Rattle.measure.specs.Algebra.{Laws}
 use Rattle.haulage.specs.declared.haul.Haul.{Haul}
-use Rattle.haulage.specs.Hauls.{weight, fuel_in, minutes_in, clamped, sized, haul_algebra, larger_algebra}
+use Rattle.haulage.specs.Hauls.{weight, fuel_in, minutes_in, clamped, ranked, haul_algebra, larger_algebra}
 
 -- hauls are the same if their fuel and their minutes are
 pub haul_same : (a b : Haul) → a.fuel ≡ b.fuel → a.minutes ≡ b.minutes → a ≡ b
@@ -22,28 +24,19 @@ fuel_kept fuel minutes h = omega arith
 minutes_kept : (fuel minutes : ℕ) → 3 * fuel + 2 * minutes ≤ 2 ^ 62 → minutes_in fuel minutes ≡ minutes
 minutes_kept fuel minutes h = let e = fuel_kept fuel minutes h in omega arith
 
+by_weight : IsTotalOrder ranked
+by_weight = then_total (on_total weight nat_cmp_total) (on_total (λ (h : Haul). h.fuel) nat_cmp_total)
+
 -- the order over plain numbers: a weight and a fuel, then another weight and fuel
 abbrev order : ℕ → ℕ → ℕ → ℕ → Ordering
-order w f x g = ordering_then (sized w x) (sized f g)
+order w f x g = ordering_then (nat_cmp w x) (nat_cmp f g)
 
 order_equal : (w f x g : ℕ) → order w f x g ≡ Equal → (w ≡ x) × (f ≡ g)
 order_equal w f x g h = grind (arith, nat_tests)
 
-order_self : (w f : ℕ) → order w f w f ≡ Equal
-order_self w f = grind (arith, nat_tests)
-
-order_converse : (w f x g : ℕ) → order x g w f ≡ ordering_reverse (order w f x g)
-order_converse w f x g = grind (arith, nat_tests)
-
-order_trans : (w f x g y h : ℕ) → order w f x g ≡ Less → order x g y h ≡ Less → order w f y h ≡ Less
-order_trans w f x g y h p q = grind (arith, nat_tests)
-
 -- as much added to both weights and to both fuels
-order_kept : (w f x g y h : ℕ) → order w f x g ≡ Less → order (w + y) (f + h) (x + y) (g + h) ≡ Less
-order_kept w f x g y h p = grind (arith, nat_tests)
-
-order_moved : (w f x g : ℕ) {w' f' x' g' : ℕ} → w' ≡ w → f' ≡ f → x' ≡ x → g' ≡ g → order w f x g ≡ Less → order w' f' x' g' ≡ Less
-order_moved w f x g p q r s h = (λ j. order (p j) (q j) (r j) (s j)) ∙ h
+order_kept : (w f x g y h : ℕ) {w' f' x' g' : ℕ} → w' ≡ w + y → f' ≡ f + h → x' ≡ x + y → g' ≡ g + h → order w f x g ≡ Less → order w' f' x' g' ≡ Less
+order_kept w f x g y h p q r s k = grind (arith, nat_tests)
 
 -- a join that is present has the sums of its parts, and weighs as much as they
 joined_fuel : (a b : Haul) → weight a + weight b ≤ 2 ^ 62 → (haul_algebra.plus a b).fuel ≡ a.fuel + b.fuel
@@ -81,21 +74,19 @@ haul_laws = record {
   same = λ a b e.
       let h = order_equal (weight a) a.fuel (weight b) b.fuel e in
       haul_same a b h.1 (minutes_same a.fuel a.minutes b.fuel b.minutes h.0 h.1);
-  same_self = λ a. order_self (weight a) a.fuel;
-  converse = λ a b. order_converse (weight a) a.fuel (weight b) b.fuel;
-  transitive = λ a b c. order_trans (weight a) a.fuel (weight b) b.fuel (weight c) c.fuel;
+  same_self = tied_itself by_weight;
+  converse = λ a b. by_weight.antisymm b a;
+  transitive = by_weight.trans;
   associative = associates;
   null_magnitude = refl;
   null_left = λ a. haul_same _ _ (joined_fuel (clamped 0 0) a (omega arith) ∙ omega arith) (joined_minutes (clamped 0 0) a (omega arith) ∙ omega arith);
   null_right = λ a. haul_same _ _ (joined_fuel a (clamped 0 0) (omega arith) ∙ omega arith) (joined_minutes a (clamped 0 0) (omega arith) ∙ omega arith);
   right_monotone = λ a b c p f g.
-      order_moved (weight a + weight c) (a.fuel + c.fuel) (weight b + weight c) (b.fuel + c.fuel)
-      (joined_weight a c f) (joined_fuel a c f) (joined_weight b c g) (joined_fuel b c g)
-      (order_kept (weight a) a.fuel (weight b) b.fuel (weight c) c.fuel p);
+      order_kept (weight a) a.fuel (weight b) b.fuel (weight c) c.fuel
+      (joined_weight a c f) (joined_fuel a c f) (joined_weight b c g) (joined_fuel b c g) p;
   left_monotone = λ a b c p f g.
-      order_moved (weight a + weight c) (a.fuel + c.fuel) (weight b + weight c) (b.fuel + c.fuel)
-      (joined_weight c a f ∙ add_comm _ _) (joined_fuel c a f ∙ add_comm _ _) (joined_weight c b g ∙ add_comm _ _) (joined_fuel c b g ∙ add_comm _ _)
-      (order_kept (weight a) a.fuel (weight b) b.fuel (weight c) c.fuel p);
+      order_kept (weight a) a.fuel (weight b) b.fuel (weight c) c.fuel
+      (joined_weight c a f ∙ add_comm _ _) (joined_fuel c a f ∙ add_comm _ _) (joined_weight c b g ∙ add_comm _ _) (joined_fuel c b g ∙ add_comm _ _) p;
   subadditive = λ a b f. let e = joined_weight a b f in omega arith;
 }
 

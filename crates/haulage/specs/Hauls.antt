@@ -1,9 +1,8 @@
 -- The measure of hauls: what its four answers are.
-use Rattle.std.specs.Prelude.{ℕ, ◌+◌, ◌-◌, ◌*◌, ◌/◌, ◌^◌, ◌≤◌, min, max, cond, nat_lt}
-use Rattle.std.specs.declared.cmp.Ordering.TheVariants.{Less, Equal, Greater}
+use Rattle.std.specs.Prelude.{ℕ, ◌+◌, ◌-◌, ◌*◌, ◌/◌, ◌^◌, ◌≤◌, min, max}
 use Rattle.std.specs.declared.cmp.Ordering.{Ordering}
 use Rattle.std.proofs.Common.{arith}
-use Rattle.std.specs.Ordering.{ordering_then}
+use Rattle.std.specs.Ordering.{nat_cmp, on, then_cmp}
 use Rattle.measure.specs.Algebra.{Algebra}
 use Rattle.haulage.specs.declared.haul.Haul.{Haul}
 
@@ -24,13 +23,9 @@ clamped_fits fuel minutes = omega arith
 abbrev pub clamped : ℕ → ℕ → Haul
 clamped fuel minutes = record { fuel = fuel_in fuel; minutes = minutes_in fuel minutes; ok = clamped_fits fuel minutes }
 
--- by size
-abbrev pub sized : ℕ → ℕ → Ordering
-sized a b = cond (nat_lt a b) Less (cond (nat_lt b a) Greater Equal)
-
 -- by weight, then by fuel
 abbrev pub ranked : Haul → Haul → Ordering
-ranked a b = ordering_then (sized (weight a) (weight b)) (sized a.fuel b.fuel)
+ranked = then_cmp (on weight nat_cmp) (on (λ h. h.fuel) nat_cmp)
 
 abbrev pub haul_algebra : Algebra Haul
 haul_algebra = record {

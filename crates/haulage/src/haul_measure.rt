@@ -47,9 +47,8 @@ impl Measure for Haul {
 
     // Equal weights are decided by the fuel: hauls compare the same only if they are the same.
     fn compare(&self, other: &Haul) -> Ordering {
-        match self.weight().cmp(&other.weight()) {
-            Ordering::Equal => self.fuel.cmp(&other.fuel),
-            decided => decided,
-        }
+        self.weight()
+            .cmp(&other.weight())
+            .then_with(|| self.fuel.cmp(&other.fuel))
     }
 }

@@ -4,14 +4,6 @@ use session::{Arc, Draft, Order, Settled, Step, Trace};
 use std::cmp::Ordering;
 use std::test::Fail;
 
-const NO_ARC: Arc = Arc {
-    start: 0,
-    end: 0,
-    open: false,
-};
-
-const NO_STEP: Step = Step { arc: 0, place: 0 };
-
 // Two roads from 1 to 2 of one weight, one back from 3 to 2, and to 3 a road over 2 and a slow one that burns nothing: start, end, fuel and minutes.
 const ROADS: [(usize, usize, u64, u64); 5] = [
     (1, 2, 4, 1),
@@ -28,17 +20,15 @@ const ROWS: [&[(u64, u64)]; 3] = [
     &[(3, 5), (5, 2), (0, 10)],
 ];
 
-// The fuel and the minutes.
-fn parts(haul: Haul) -> (u64, u64) {
-    (haul.fuel, haul.minutes)
-}
+// The first three paths to node 3, by their arcs.
+const PATHS: [&[usize]; 3] = [&[2, 4], &[1, 4], &[5]];
 
 #[test]
 fn hauls_join_and_compare(rt: HostRuntime) {
-    match Haul::new(1, 2).join(&Haul::new(3, 4)) {
-        Some(haul) => assert_eq!(rt; parts(haul), (4, 6)),
-        None => assert!(rt; false),
-    }
+    assert_eq!(rt;
+        Haul::new(1, 2).join(&Haul::new(3, 4)),
+        Some(Haul::new(4, 6))
+    );
     let two_litres = Haul::new(2, 0);
     let three_minutes = Haul::new(0, 3);
     assert_eq!(rt; two_litres.compare(&three_minutes), Ordering::Greater);
@@ -62,99 +52,76 @@ struct Tables {
     lengths: [Haul; 5],
     values: [Haul; 9],
     counts: [usize; 3],
+    work: [Step; 9],
+    path: [usize; 9],
 }
 
 impl Tables {
     // The roads, solved for three hauls from node 1.
     fn settle(&mut self) -> Result<Settled, Fail> {
-        let Ok(mut draft) = Draft::new(3) else {
-            return Err(Fail::new("no draft"));
-        };
+        let mut draft = Draft::new(3)?;
         for (start, end, fuel, minutes) in ROADS {
             let haul = Haul::new(fuel, minutes);
-            if draft
-                .put(&mut self.arcs, &mut self.lengths, start, end, haul)
-                .is_err()
-            {
-                return Err(Fail::new("an arc is refused"));
-            }
+            draft.put(&mut self.arcs, &mut self.lengths, start, end, haul)?;
         }
-        let Ok(order) = Order::new(3, 1) else {
-            return Err(Fail::new("no order"));
-        };
-        match draft.solve(
-            order,
-            &self.arcs,
-            &self.lengths,
-            &mut self.values,
-            &mut self.counts,
-        ) {
-            Ok(found) => {
-                let (settled, _) = found;
-                Ok(settled)
-            }
-            Err(_) => Err(Fail::new("the solve is refused")),
-        }
+        let order = Order::new(3, 1)?;
+        let (settled, _) = draft
+            .solve(
+                order,
+                &self.arcs,
+                &self.lengths,
+                &mut self.values,
+                &mut self.counts,
+            )
+            .map_err(|(_, why)| why)?;
+        Ok(settled)
     }
 
-    // The haul at a place of a node's row, as fuel and minutes.
-    fn haul(&self, settled: &Settled, node: usize, place: usize) -> Option<(u64, u64)> {
-        match settled.length(&self.values, &self.counts, node, place) {
-            Ok(answer) => {
-                let haul = answer?;
-                Some(parts(haul))
-            }
-            Err(_) => None,
-        }
+    // The haul at a place of a node's row.
+    fn haul(&self, settled: &Settled, node: usize, place: usize) -> Option<Haul> {
+        settled
+            .length(&self.values, &self.counts, node, place)
+            .ok()?
     }
 
-    // Whether the next path of the trace takes these arcs.
-    fn hands_out(
-        &self,
-        trace: &mut Trace,
-        work: &mut [Step],
-        path: &mut [usize],
-        arcs: &[usize],
-    ) -> bool {
-        match trace.next(
+    // The arcs of the next path.
+    fn next(&mut self, trace: &mut Trace) -> Option<&[usize]> {
+        let (count, _) = trace.next(
             &self.arcs,
             &self.lengths,
             &self.values,
             &self.counts,
-            work,
-            path,
-        ) {
-            Some(next) => {
-                let (count, _) = next;
-                count <= path.len() && &path[0..count] == arcs
-            }
-            None => false,
-        }
+            &mut self.work,
+            &mut self.path,
+        )?;
+        self.path.get(..count)
     }
 }
 
 #[test]
 fn hauls_are_solved_and_traced(rt: HostRuntime) -> Result<(), Fail> {
     let mut tables = Tables {
-        arcs: [NO_ARC; 5],
+        arcs: [Arc::default(); 5],
         lengths: [Haul::null(); 5],
         values: [Haul::null(); 9],
         counts: [0; 3],
+        work: [Step::default(); 9],
+        path: [0; 9],
     };
     let settled = tables.settle()?;
-    for node in 0..3usize {
-        for place in 0..3usize {
-            let haul = tables.haul(&settled, node + 1, place + 1);
-            assert_eq!(rt; haul, ROWS[node].get(place).copied());
+    for (i, row) in ROWS.iter().enumerate() {
+        for place in 0..3 {
+            let haul = row
+                .get(place)
+                .map(|(fuel, minutes)| Haul::new(*fuel, *minutes));
+            assert_eq!(rt; tables.haul(&settled, i + 1, place + 1), haul);
         }
     }
-    let mut work = [NO_STEP; 9];
-    let mut path = [0usize; 9];
-    let Ok(mut trace) = settled.trace(3, &work, &path) else {
-        return Err(Fail::new("the trace is refused"));
-    };
-    assert!(rt; tables.hands_out(&mut trace, &mut work, &mut path, &[2, 4]));
-    assert!(rt; tables.hands_out(&mut trace, &mut work, &mut path, &[1, 4]));
-    assert!(rt; tables.hands_out(&mut trace, &mut work, &mut path, &[5]));
+    let mut trace = settled
+        .trace(3, &tables.work, &tables.path)
+        .map_err(|(_, why)| why)?;
+    for arcs in PATHS {
+        assert!(rt; tables.next(&mut trace).is_some_and(|path| path == arcs));
+    }
     Ok(())
 }

@@ -1,7 +1,7 @@
 // A grid of 3 by 4 nodes, its five smallest lengths from node 12, and the paths to node 1, as they were printed.
 // docs/published-sample.md tells what was read in the print and what was worked out from it.
 use measure::{Measure, Sum};
-use session::{Arc, Draft, Order, Settled, Step, Trace};
+use session::{Arc, Draft, Order, Refusal, Settled, Step, Trace};
 use std::test::Fail;
 
 const NODES: usize = 12;
@@ -81,155 +81,97 @@ const PATHS: [(i64, &[usize]); 5] = [
     (221, &[12, 8, 7, 6, 5, 6, 5, 1]),
 ];
 
-const NO_ARC: Arc = Arc {
-    start: 0,
-    end: 0,
-    open: false,
-};
-
-const NO_STEP: Step = Step { arc: 0, place: 0 };
-
-// The caller's tables of a session on the sample.
+// The caller's tables of a session on the sample. Those in the tests of haulage have other sizes and lengths; a crate for both would be longer.
 #[derive(Drop)]
 struct Tables {
     arcs: [Arc; 34],
     lengths: [Sum; 34],
     values: [Sum; 60],
     counts: [usize; 12],
+    work: [Step; 60],
+    path: [usize; 60],
 }
 
 impl Tables {
     fn new() -> Tables {
         Tables {
-            arcs: [NO_ARC; 34],
+            arcs: [Arc::default(); 34],
             lengths: [Sum::null(); 34],
             values: [Sum::null(); 60],
             counts: [0; 12],
+            work: [Step::default(); 60],
+            path: [0; 60],
         }
     }
 
     // A draft of the sample.
-    fn draft(&mut self) -> Result<Draft, Fail> {
-        let Ok(mut draft) = Draft::new(NODES) else {
-            return Err(Fail::new("no draft"));
-        };
+    fn draft(&mut self) -> Result<Draft, Refusal> {
+        let mut draft = Draft::new(NODES)?;
         for (start, end, length) in ARCS {
-            let length = Sum::new(length);
-            if draft
-                .put(&mut self.arcs, &mut self.lengths, start, end, length)
-                .is_err()
-            {
-                return Err(Fail::new("an arc is refused"));
-            }
+            draft.put(
+                &mut self.arcs,
+                &mut self.lengths,
+                start,
+                end,
+                Sum::new(length),
+            )?;
         }
         Ok(draft)
     }
 
     // The session and the number of its passes.
-    fn settle(&mut self, draft: Draft) -> Result<(Settled, usize), Fail> {
-        let Ok(order) = Order::new(K, SOURCE) else {
-            return Err(Fail::new("no order"));
-        };
-        match draft.solve(
-            order,
-            &self.arcs,
-            &self.lengths,
-            &mut self.values,
-            &mut self.counts,
-        ) {
-            Ok(found) => {
-                let (settled, solved) = found;
-                Ok((settled, solved.passes))
-            }
-            Err(_) => Err(Fail::new("the solve is refused")),
-        }
+    fn settle(&mut self, draft: Draft) -> Result<(Settled, usize), Refusal> {
+        let order = Order::new(K, SOURCE)?;
+        let (settled, solved) = draft
+            .solve(
+                order,
+                &self.arcs,
+                &self.lengths,
+                &mut self.values,
+                &mut self.counts,
+            )
+            .map_err(|(_, why)| why)?;
+        Ok((settled, solved.passes))
     }
 
-    // Whether the row of a node, counted from 0, is the printed one.
-    fn row_is_printed(&self, settled: &Settled, node: usize) -> bool {
-        let Some(row) = ROWS.get(node) else {
-            return false;
-        };
-        for place in 0..K {
-            let Ok(answer) = settled.length(&self.values, &self.counts, node + 1, place + 1) else {
-                return false;
-            };
-            match answer {
-                Some(length) => {
-                    if length.value != row[place] {
-                        return false;
-                    }
+    // Whether the rows are the printed ones.
+    fn rows_are_printed(&self, settled: &Settled) -> bool {
+        for (i, row) in ROWS.iter().enumerate() {
+            for (place, length) in row.iter().enumerate() {
+                let told = settled.length(&self.values, &self.counts, i + 1, place + 1);
+                if told != Ok(Some(Sum::new(*length))) {
+                    return false;
                 }
-                None => return false,
             }
         }
         true
     }
 
-    // Whether the arcs of a path lead from the source over these nodes.
-    fn leads_over(&self, path: &[usize], nodes: &[usize]) -> bool {
-        if nodes.first() != Some(&SOURCE) || path.len() != nodes.len() - 1 {
+    // Whether so many arcs of the path table lead from the source over these nodes.
+    fn leads_over(&self, count: usize, nodes: &[usize]) -> bool {
+        let Some(path) = self.path.get(..count) else {
             return false;
-        }
-        for i in 0..path.len() {
-            match self.arcs.get(path[i].wrapping_sub(1)) {
-                Some(arc) if arc.start as usize == nodes[i] && arc.end as usize == nodes[i + 1] =>
-                    {}
-                _ => return false,
-            }
-        }
-        true
+        };
+        nodes.first() == Some(&SOURCE)
+            && path.len() + 1 == nodes.len()
+            && path.iter().zip(nodes.windows(2)).all(|(number, ends)| {
+                match self.arcs.get(number.wrapping_sub(1)) {
+                    Some(arc) => ends == [arc.start as usize, arc.end as usize].as_slice(),
+                    None => false,
+                }
+            })
     }
 
-    // Whether the next path of the trace has this length and leads over these nodes.
-    fn hands_out(
-        &self,
-        trace: &mut Trace,
-        work: &mut [Step],
-        path: &mut [usize],
-        length: i64,
-        nodes: &[usize],
-    ) -> bool {
-        match trace.next(
+    // The next path of the trace: how many arcs of the path table are its own, and its length.
+    fn next(&mut self, trace: &mut Trace) -> Option<(usize, Sum)> {
+        trace.next(
             &self.arcs,
             &self.lengths,
             &self.values,
             &self.counts,
-            work,
-            path,
-        ) {
-            Some(next) => {
-                let (count, found) = next;
-                found.value == length
-                    && count <= path.len()
-                    && self.leads_over(&path[0..count], nodes)
-            }
-            None => false,
-        }
-    }
-
-    // Whether the trace hands out the printed paths in turn, and then no more.
-    fn hands_out_the_printed(
-        &self,
-        trace: &mut Trace,
-        work: &mut [Step],
-        path: &mut [usize],
-    ) -> bool {
-        for (length, nodes) in PATHS {
-            if !self.hands_out(trace, work, path, length, nodes) {
-                return false;
-            }
-        }
-        trace
-            .next(
-                &self.arcs,
-                &self.lengths,
-                &self.values,
-                &self.counts,
-                work,
-                path,
-            )
-            .is_none()
+            &mut self.work,
+            &mut self.path,
+        )
     }
 }
 
@@ -237,12 +179,9 @@ impl Tables {
 fn rows_and_passes_are_the_printed_ones(rt: HostRuntime) -> Result<(), Fail> {
     let mut tables = Tables::new();
     let draft = tables.draft()?;
-    let found = tables.settle(draft)?;
-    let (settled, passes) = found;
+    let (settled, passes) = tables.settle(draft)?;
     assert_eq!(rt; passes, PASSES);
-    for node in 0..NODES {
-        assert!(rt; tables.row_is_printed(&settled, node));
-    }
+    assert!(rt; tables.rows_are_printed(&settled));
     Ok(())
 }
 
@@ -250,14 +189,16 @@ fn rows_and_passes_are_the_printed_ones(rt: HostRuntime) -> Result<(), Fail> {
 fn paths_are_the_printed_ones(rt: HostRuntime) -> Result<(), Fail> {
     let mut tables = Tables::new();
     let draft = tables.draft()?;
-    let found = tables.settle(draft)?;
-    let (settled, _) = found;
-    let mut work = [NO_STEP; 60];
-    let mut path = [0usize; 60];
-    let Ok(mut trace) = settled.trace(TARGET, &work, &path) else {
-        return Err(Fail::new("the trace is refused"));
-    };
-    assert!(rt; tables.hands_out_the_printed(&mut trace, &mut work, &mut path));
+    let (settled, _) = tables.settle(draft)?;
+    let mut trace = settled
+        .trace(TARGET, &tables.work, &tables.path)
+        .map_err(|(_, why)| why)?;
+    for (length, nodes) in PATHS {
+        let (count, found) = tables.next(&mut trace).ok_or("no path is left")?;
+        assert_eq!(rt; found, Sum::new(length));
+        assert!(rt; tables.leads_over(count, nodes));
+    }
+    assert_eq!(rt; tables.next(&mut trace), None);
     Ok(())
 }
 
@@ -267,20 +208,13 @@ fn one_length_is_undetermined(rt: HostRuntime) -> Result<(), Fail> {
     let mut tables = Tables::new();
     for length in 1..=100 {
         let draft = tables.draft()?;
-        if draft
-            .relength(&mut tables.lengths, UNDETERMINED, Sum::new(length))
-            .is_err()
-        {
-            return Err(Fail::new("no such arc"));
-        }
-        let found = tables.settle(draft)?;
-        let (settled, passes) = found;
+        draft.relength(&mut tables.lengths, UNDETERMINED, Sum::new(length))?;
+        let (settled, passes) = tables.settle(draft)?;
         assert_eq!(rt; passes, PASSES);
-        let mut agree = true;
-        for node in 0..NODES {
-            agree = agree && tables.row_is_printed(&settled, node);
-        }
-        assert_eq!(rt; agree, length == 6 || length >= 16);
+        assert_eq!(rt;
+            tables.rows_are_printed(&settled),
+            length == 6 || length >= 16
+        );
     }
     Ok(())
 }

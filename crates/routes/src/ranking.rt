@@ -15,7 +15,7 @@ pub struct Route<M> {
     pub length: M,
 }
 
-// By length, and among equal lengths by number.
+// By length, and among equal lengths by number. By hand: lengths compare by `compare`, which no derive calls.
 impl<M: Measure> Ord for Route<M> {
     ghost cmp = { λ a b. route_compare M.Measure.algebra a b };
 
@@ -26,10 +26,9 @@ impl<M: Measure> Ord for Route<M> {
     ghost matches_eq = { λ _ _. refl };
 
     fn cmp(&self, other: &Route<M>) -> Ordering {
-        match self.length.compare(&other.length) {
-            Ordering::Equal => self.number.cmp(&other.number),
-            decided => decided,
-        }
+        self.length
+            .compare(&other.length)
+            .then_with(|| self.number.cmp(&other.number))
     }
 }
 
@@ -49,7 +48,7 @@ impl<M: Measure> PartialEq for Route<M> {
     ghost laws = { partial_equiv_from_equiv (eq_by_cmp_equiv (total_order M.Measure.lawful)) };
 
     fn eq(&self, other: &Route<M>) -> bool {
-        matches!(self.cmp(other), Ordering::Equal)
+        self.cmp(other).is_eq()
     }
 }
 
@@ -69,5 +68,5 @@ pub fn rank<M: Measure>(routes: &mut Vec<Route<M>>)
 pub fn equally_long<M: Measure>(a: &Route<M>, b: &Route<M>) -> bool
     ensures { result ≡ is_eq (M.Measure.algebra.compare a.now.length b.now.length) }
 {
-    matches!(a.length.compare(&b.length), Ordering::Equal)
+    a.length.compare(&b.length).is_eq()
 }

@@ -9,18 +9,12 @@ fn numbers(heap: Global, text: &str) -> Result<Option<Vec<i64>>, AllocError>
     ensures { IfOk result (λ o. MatchOption o ((cs : List ℤ) → Reads text.now cs → ⊥) (λ v. Reads text.now v.items)) }
 {
     let mut numbers = Vec::new(heap);
-    let mut rest = text;
-    while let Some((part, more)) = rest.split_once('/') {
+    for part in text.split('/') {
         let Ok(number) = part.parse::<i64>() else {
             return Ok(None);
         };
         numbers.push(number)?;
-        rest = more;
     }
-    let Ok(number) = rest.parse::<i64>() else {
-        return Ok(None);
-    };
-    numbers.push(number)?;
     Ok(Some(numbers))
 }
 
@@ -28,8 +22,5 @@ fn numbers(heap: Global, text: &str) -> Result<Option<Vec<i64>>, AllocError>
 pub fn read_leg<M: Columns>(heap: Global, text: &str) -> Result<Option<M>, AllocError>
     ensures { IfOk result (λ o. MatchOption o ((a : M) → Reads text.now (M.Columns.columnar.tell a) → ⊥) (λ a. Reads text.now (M.Columns.columnar.tell a))) }
 {
-    match numbers(heap, text)? {
-        Some(columns) => Ok(M::build(columns.as_slice())),
-        None => Ok(None),
-    }
+    Ok(numbers(heap, text)?.and_then(|columns| M::build(&columns)))
 }

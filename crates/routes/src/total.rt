@@ -7,9 +7,6 @@ use measure::Measure;
 pub fn route_length<M: Measure>(legs: &[M]) -> Option<M>
     ensures { result ≡ total M.Measure.algebra legs.now }
 {
-    let mut length = M::null();
-    for leg in legs {
-        length = length.join(leg)?;
-    }
-    Some(length)
+    legs.iter()
+        .try_fold(M::null(), |length, leg| length.join(leg))
 }

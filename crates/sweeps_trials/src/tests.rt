@@ -1,47 +1,17 @@
-ghost use Rattle.std.specs.Prelude.{◌≡◌};
-ghost use Rattle.sweeps_trials.specs.Told.{open_arc, passes_told, null_told, refusal_told};
+ghost use Rattle.std.specs.Prelude.{◌≡◌, true};
 
 use measure::Sum;
+use std::test::Fail;
 use sweeps::{Arc, Order, Refusal, Solved, solve};
 
 // An open arc.
 fn arc(start: u32, end: u32) -> Arc
-    ensures { result ≡ open_arc start end }
+    ensures { result ≡ record { start = start; end = end; «open» = true } }
 {
     Arc {
         start,
         end,
         open: true,
-    }
-}
-
-// The number of passes, or 0 for a refused solve.
-fn passes(answer: Result<Solved, Refusal>) -> usize
-    ensures { result ≡ passes_told answer }
-{
-    match answer {
-        Ok(found) => found.passes,
-        Err(_) => 0,
-    }
-}
-
-// Whether a null circuit is told.
-fn null(answer: Result<Solved, Refusal>) -> bool
-    ensures { result ≡ null_told answer }
-{
-    match answer {
-        Ok(found) => found.null,
-        Err(_) => false,
-    }
-}
-
-// The number of the refusal, or 0.
-fn refusal(answer: Result<Solved, Refusal>) -> u8
-    ensures { result ≡ refusal_told answer }
-{
-    match answer {
-        Ok(_) => 0,
-        Err(why) => why.number(),
     }
 }
 
@@ -55,27 +25,17 @@ fn diamond(rt: HostRuntime) {
         arc(2, 4),
         arc(3, 4),
     ];
-    let lengths = [
-        Sum::new(1),
-        Sum::new(4),
-        Sum::new(2),
-        Sum::new(1),
-        Sum::new(5),
-        Sum::new(7),
-    ];
+    let lengths = [1, 4, 2, 1, 5, 7].map(Sum::new);
+    let order = Order { k: 3, source: 1 };
     let mut values = [Sum::new(-6); 13];
-    let mut counts = [9usize; 5];
-    let answer = solve(
-        4,
-        Order { k: 3, source: 1 },
-        &arcs,
-        &lengths,
-        &mut values,
-        &mut counts,
-    );
-    assert_eq!(rt; passes(answer), 7);
-    assert!(rt; !null(answer));
-    assert!(rt; counts == [1, 3, 3, 3, 9]);
+    let mut counts = [9; 5];
+    let answer = solve(4, order, &arcs, &lengths, &mut values, &mut counts);
+    let solved = Solved {
+        passes: 7,
+        null: false,
+    };
+    assert_eq!(rt; answer, Ok(solved));
+    assert_eq!(rt; counts, [1, 3, 3, 3, 9]);
     assert_eq!(rt; values[2].value, 0);
     assert_eq!(rt; values[3].value, 3);
     assert_eq!(rt; values[8].value, 5);
@@ -91,87 +51,52 @@ fn circuits(rt: HostRuntime) {
     let arcs = [arc(2, 1), arc(1, 2)];
     let order = Order { k: 2, source: 1 };
     let mut values = [Sum::new(7); 4];
-    let mut counts = [7usize; 2];
-    let after = solve(
-        2,
-        order,
-        &arcs,
-        &[Sum::new(-2), Sum::new(3)],
-        &mut values,
-        &mut counts,
-    );
-    assert_eq!(rt; passes(after), 5);
-    assert!(rt; !null(after));
+    let mut counts = [7; 2];
+    let lengths = [-2, 3].map(Sum::new);
+    let answer = solve(2, order, &arcs, &lengths, &mut values, &mut counts);
+    let solved = Solved {
+        passes: 5,
+        null: false,
+    };
+    assert_eq!(rt; answer, Ok(solved));
     assert_eq!(rt; values[1].value, 1);
     assert_eq!(rt; values[3].value, 4);
-    let even = solve(
-        2,
-        order,
-        &arcs,
-        &[Sum::new(-3), Sum::new(3)],
-        &mut values,
-        &mut counts,
-    );
-    assert_eq!(rt; passes(even), 3);
-    assert!(rt; null(even));
-    assert!(rt; counts == [1, 1]);
+    let lengths = [-3, 3].map(Sum::new);
+    let answer = solve(2, order, &arcs, &lengths, &mut values, &mut counts);
+    let solved = Solved {
+        passes: 3,
+        null: true,
+    };
+    assert_eq!(rt; answer, Ok(solved));
+    assert_eq!(rt; counts, [1, 1]);
     assert_eq!(rt; values[2].value, 3);
     assert_eq!(rt; values[3].value, 0);
-    let before = solve(
-        2,
-        order,
-        &arcs,
-        &[Sum::new(-4), Sum::new(3)],
-        &mut values,
-        &mut counts,
-    );
-    assert_eq!(rt; refusal(before), 11);
-    assert!(rt; counts == [0, 0]);
+    let lengths = [-4, 3].map(Sum::new);
+    let answer = solve(2, order, &arcs, &lengths, &mut values, &mut counts);
+    assert_eq!(rt; answer, Err(Refusal::NegativeCircuit));
+    assert_eq!(rt; counts, [0, 0]);
     assert_eq!(rt; values[2].value, 0);
 }
 
 #[test]
-fn refusals(rt: HostRuntime) {
+fn refusals(rt: HostRuntime) -> Result<(), Fail> {
     let arcs = [arc(1, 2)];
     let lengths = [Sum::new(1)];
     let mut values = [Sum::new(7); 4];
-    let mut counts = [7usize; 2];
-    assert_eq!(rt;
-        refusal(solve(
-            0,
-            Order { k: 2, source: 1 },
-            &arcs,
-            &lengths,
-            &mut values,
-            &mut counts,
-        )),
-        1
-    );
-    assert_eq!(rt;
-        refusal(solve(
-            2,
-            Order { k: 2, source: 3 },
-            &arcs,
-            &lengths,
-            &mut values,
-            &mut counts,
-        )),
-        9
-    );
-    assert_eq!(rt;
-        refusal(solve(
-            2,
-            Order { k: 3, source: 1 },
-            &arcs,
-            &lengths,
-            &mut values,
-            &mut counts,
-        )),
-        10
-    );
-    assert!(rt; counts == [7, 7]);
-    assert_eq!(rt; values[3].value, 7);
+    let mut counts = [7; 2];
+    for (nodes, k, source, why) in [
+        (0, 2, 1, Refusal::NodeCount),
+        (2, 2, 3, Refusal::NoSuchNode),
+        (2, 3, 1, Refusal::ShortTables),
+    ] {
+        let order = Order::new(k, source)?;
+        let answer = solve(nodes, order, &arcs, &lengths, &mut values, &mut counts);
+        assert_eq!(rt; answer, Err(why));
+    }
+    assert_eq!(rt; counts, [7, 7]);
+    assert_eq!(rt; values, [Sum::new(7); 4]);
     assert!(rt;
         Order::new(20, 1000).is_ok() && Order::new(21, 0).is_err() && Order::new(1, 1001).is_err()
     );
+    Ok(())
 }

@@ -3,20 +3,29 @@
 
 use anyhow::anyhow;
 use measure::{Measure, Sum};
-use session::{Arc, Draft, Order};
+use session::{Arc, Draft, Order, Refusal};
+use std::alloc::Global;
 use std::env;
 use std::time::Instant;
 
-const NO_ARC: Arc = Arc {
-    start: 0,
-    end: 0,
-    open: false,
-};
+// How many cells the tables of arcs and of lengths have.
+const ARCS: usize = 10000;
+
+// The side of the grid.
+const SIDE: usize = 24;
+
+// The nodes of the scattered network.
+const NODES: usize = 1000;
 
 // How often each solve is timed.
 const TURNS: u32 = 5;
 
-// Numbers that look random, the same in every run.
+// A refusal implements no `Error`, so `?` alone does not take it.
+fn refused(why: Refusal) -> anyhow::Error {
+    anyhow!("refused with {}", why.number())
+}
+
+// Numbers that look random, the same in every run. The crate trials has another generator; what each prints is pinned.
 #[derive(Drop)]
 struct Numbers {
     state: u64,
@@ -24,23 +33,17 @@ struct Numbers {
 
 impl Numbers {
     // A number from 1 to `most`, or 1 for 0.
-    fn up_to(&mut self, most: u64) -> u64 {
+    fn up_to(&mut self, most: u32) -> u32 {
         self.state = self
             .state
             .wrapping_mul(6364136223846793005)
             .wrapping_add(1442695040888963407);
-        match (self.state >> 33).checked_rem(most) {
-            Some(rest) => rest.saturating_add(1),
-            None => 1,
-        }
+        (self.state >> 33) as u32 % most.max(1) + 1
     }
 
     // A length from 1 to 100.
     fn length(&mut self) -> Sum {
-        match i64::try_from(self.up_to(100)) {
-            Ok(length) => Sum::new(length),
-            Err(_) => Sum::null(),
-        }
+        Sum::new(i64::from(self.up_to(100)))
     }
 }
 
@@ -55,93 +58,61 @@ struct Network {
     lengths: Vec<Sum>,
 }
 
-// A street grid: arcs both ways between neighbours, by end and then by start.
-fn grid(rt: &HostRuntime, side: usize, k: usize) -> anyhow::Result<Network> {
-    let nodes = side.saturating_mul(side);
-    let Ok(mut draft) = Draft::new(nodes) else {
-        return Err(anyhow!("no draft"));
-    };
-    let mut arcs = vec![in rt.alloc(); NO_ARC; 10000]?;
-    let mut lengths = vec![in rt.alloc(); Sum::null(); 10000]?;
-    let mut numbers = Numbers { state: 1974 };
-    let mut end: usize = 0;
-    for row in 0..side {
-        for column in 0..side {
-            end = end.saturating_add(1);
-            if row > 0 {
-                let _ = draft.put(
-                    &mut arcs,
-                    &mut lengths,
-                    end.saturating_sub(side),
-                    end,
-                    numbers.length(),
-                );
-            }
-            if column > 0 {
-                let _ = draft.put(
-                    &mut arcs,
-                    &mut lengths,
-                    end.saturating_sub(1),
-                    end,
-                    numbers.length(),
-                );
-            }
-            if column < side - 1 {
-                let _ = draft.put(
-                    &mut arcs,
-                    &mut lengths,
-                    end.saturating_add(1),
-                    end,
-                    numbers.length(),
-                );
-            }
-            if row < side - 1 {
-                let _ = draft.put(
-                    &mut arcs,
-                    &mut lengths,
-                    end.saturating_add(side),
-                    end,
-                    numbers.length(),
-                );
-            }
-        }
+impl Network {
+    fn new(heap: Global, name: &'static str, nodes: usize, k: usize) -> anyhow::Result<Network> {
+        Ok(Network {
+            name,
+            nodes,
+            k,
+            draft: Draft::new(nodes).map_err(refused)?,
+            arcs: vec![in heap; Arc::default(); ARCS]?,
+            lengths: vec![in heap; Sum::null(); ARCS]?,
+        })
     }
-    Ok(Network {
-        name: "grid of 24 by 24",
-        nodes,
-        k,
-        draft,
-        arcs,
-        lengths,
-    })
+
+    fn put(&mut self, start: usize, end: usize, length: Sum) -> anyhow::Result<()> {
+        self.draft
+            .put(&mut self.arcs, &mut self.lengths, start, end, length)
+            .map_err(refused)?;
+        Ok(())
+    }
 }
 
-// Ten arcs into each of 1,000 nodes, from nodes taken at random.
-fn scattered(rt: &HostRuntime, k: usize) -> anyhow::Result<Network> {
-    let Ok(mut draft) = Draft::new(1000) else {
-        return Err(anyhow!("no draft"));
-    };
-    let mut arcs = vec![in rt.alloc(); NO_ARC; 10000]?;
-    let mut lengths = vec![in rt.alloc(); Sum::null(); 10000]?;
-    let mut numbers = Numbers { state: 12 };
-    for i in 0..1000usize {
-        for _ in 0..10 {
-            let start = match usize::try_from(numbers.up_to(999)) {
-                Ok(start) if start > i => start.saturating_add(1),
-                Ok(start) => start,
-                Err(_) => 1,
-            };
-            let _ = draft.put(&mut arcs, &mut lengths, start, i + 1, numbers.length());
+// A street grid: arcs both ways between neighbours, by end and then by start.
+fn grid(heap: Global) -> anyhow::Result<Network> {
+    let mut network = Network::new(heap, "grid of 24 by 24", SIDE * SIDE, 10)?;
+    let mut numbers = Numbers { state: 1974 };
+    for row in 0..SIDE {
+        for column in 0..SIDE {
+            let end = row * SIDE + column + 1;
+            let neighbours = [
+                (row > 0, end.saturating_sub(SIDE)),
+                (column > 0, end - 1),
+                (column < SIDE - 1, end + 1),
+                (row < SIDE - 1, end + SIDE),
+            ];
+            for (exists, start) in neighbours {
+                if exists {
+                    network.put(start, end, numbers.length())?;
+                }
+            }
         }
     }
-    Ok(Network {
-        name: "1,000 nodes and 10,000 arcs",
-        nodes: 1000,
-        k,
-        draft,
-        arcs,
-        lengths,
-    })
+    Ok(network)
+}
+
+// Ten arcs into each node, from nodes taken at random.
+fn scattered(heap: Global) -> anyhow::Result<Network> {
+    let mut network = Network::new(heap, "1,000 nodes and 10,000 arcs", NODES, 20)?;
+    let mut numbers = Numbers { state: 12 };
+    for end in 1..=NODES {
+        for _ in 0..10 {
+            let other = numbers.up_to(999) as usize;
+            let start = if other < end { other } else { other + 1 };
+            network.put(start, end, numbers.length())?;
+        }
+    }
+    Ok(network)
 }
 
 // The time of one pass of so many.
@@ -155,30 +126,21 @@ fn solve(rt: &HostRuntime, network: Network, clock: bool) -> anyhow::Result<()> 
         name,
         nodes,
         k,
-        draft,
+        mut draft,
         arcs,
         lengths,
     } = network;
-    let Ok(order) = Order::new(k, 1) else {
-        return Err(anyhow!("no order"));
-    };
+    let order = Order::new(k, 1).map_err(refused)?;
     let mut values = vec![in rt.alloc(); Sum::null(); 20000]?;
-    let mut counts = vec![in rt.alloc(); 0usize; 1000]?;
-    let mut draft = draft;
-    let mut passes: usize = 0;
+    let mut counts = vec![in rt.alloc(); 0; 1000]?;
+    let mut passes = 0;
     let start = Instant::now(rt)?;
     for _ in 0..TURNS {
-        match draft.solve(order, &arcs, &lengths, &mut values, &mut counts) {
-            Ok(found) => {
-                let (settled, solved) = found;
-                passes = solved.passes;
-                draft = settled.reopen(&mut values, &mut counts);
-            }
-            Err(back) => {
-                let (back, _why) = back;
-                draft = back;
-            }
-        }
+        let (settled, solved) = draft
+            .solve(order, &arcs, &lengths, &mut values, &mut counts)
+            .map_err(|(_, why)| refused(why))?;
+        passes = solved.passes;
+        draft = settled.reopen(&mut values, &mut counts);
     }
     let micros = start.elapsed(rt)?.as_micros() / u128::from(TURNS);
     println!(rt; "{name}, {nodes} nodes, K {k}: {passes} passes")?;
@@ -189,15 +151,8 @@ fn solve(rt: &HostRuntime, network: Network, clock: bool) -> anyhow::Result<()> 
     Ok(())
 }
 
-fn run(rt: &HostRuntime) -> anyhow::Result<()> {
-    let mut clock = false;
-    for word in env::args(rt)?.skip(1) {
-        clock = clock || word.as_str() == "clock";
-    }
-    solve(rt, grid(rt, 24, 10)?, clock)?;
-    solve(rt, scattered(rt, 20)?, clock)
-}
-
 fn main(rt: HostRuntime) -> anyhow::Result<()> {
-    run(&rt)
+    let clock = env::args(&rt)?.skip(1).any(|word| word.as_str() == "clock");
+    solve(&rt, grid(rt.alloc())?, clock)?;
+    solve(&rt, scattered(rt.alloc())?, clock)
 }

@@ -6,7 +6,7 @@ use super::plain::Firsts;
 use super::tally::{Tally, count};
 use super::walks_found::{Walk, walks_found};
 use columns::Columns;
-use session::{Order, Refusal, Settled, Solved, Trace};
+use session::{Refusal, Settled, Trace};
 use std::alloc::{AllocError, Global};
 
 // Solves the network by both, and counts what is compared.
@@ -16,86 +16,50 @@ pub fn compare<M: Columns>(
     tally: &mut Tally,
 ) -> Result<(), AllocError> {
     count(&mut tally.networks);
-    let firsts = Firsts::found(heap, network)?;
     let mut tables = Tables::<M>::sized(heap, network)?;
-    match solved(network, &mut tables) {
-        Ok(found) => {
-            let (settled, answer) = found;
-            match firsts {
-                Some(firsts) => {
-                    tally.expect(answer.null == firsts.null_circuit(heap, network)?);
-                    compare_settled(heap, network, &mut tables, settled, &firsts, tally)
-                }
-                None => {
-                    tally.expect(false);
-                    Ok(())
-                }
-            }
+    match (tables.solved(), Firsts::found(heap, network)?) {
+        (Ok((settled, answer)), Some(firsts)) => {
+            let null = firsts.null_circuit(heap)?;
+            tally.expect(answer.null == null);
+            compare_settled(heap, &mut tables, settled, &firsts, null, tally)?;
         }
-        Err(why) => {
+        (Ok(_), None) => tally.expect(false),
+        (Err(why), firsts) => {
             count(&mut tally.refused);
-            tally.expect(firsts.is_none() && why.number() == 11);
-            Ok(())
+            tally.expect(firsts.is_none() && why == Refusal::NegativeCircuit);
         }
     }
-}
-
-// The operator's solve.
-fn solved<M: Columns>(
-    network: &Network,
-    tables: &mut Tables<M>,
-) -> Result<(Settled, Solved), Refusal> {
-    let draft = tables.draft(network)?;
-    let order = Order::new(network.k, network.source)?;
-    match draft.solve(
-        order,
-        &tables.arcs,
-        &tables.lengths,
-        &mut tables.values,
-        &mut tables.counts,
-    ) {
-        Ok(found) => Ok(found),
-        Err(back) => {
-            let (_draft, why) = back;
-            Err(why)
-        }
-    }
+    Ok(())
 }
 
 // Compares each row, and the trace to each node.
 fn compare_settled<M: Columns>(
     heap: Global,
-    network: &Network,
     tables: &mut Tables<M>,
-    settled: Settled,
+    mut settled: Settled,
     firsts: &Firsts,
+    null: bool,
     tally: &mut Tally,
 ) -> Result<(), AllocError> {
-    let null = firsts.null_circuit(heap, network)?;
     count(if null {
         &mut tally.null
     } else {
         &mut tally.traced
     });
-    let rows = firsts.rows(heap, network)?;
-    let mut settled = settled;
+    let rows = firsts.rows(heap)?;
     for (node, row) in rows.iter().enumerate().skip(1) {
-        compare_row(network, tables, &settled, node, row, tally);
-        settled = match settled.trace(node, &tables.work, &tables.path) {
-            Ok(opened) => {
-                let mut trace = opened;
+        compare_row(tables, &settled, node, row, tally);
+        settled = match tables.trace(settled, node) {
+            Ok(mut trace) => {
                 tally.expect(!null);
-                match walks_found(heap, network, firsts, node, row)? {
-                    Some(walks) => {
-                        compare_paths(heap, network, tables, &mut trace, &walks, tally)?
-                    }
+                match walks_found(heap, firsts, node, row)? {
+                    Some(walks) => compare_paths(heap, tables, &mut trace, &walks, tally)?,
                     None => count(&mut tally.crowded),
                 }
                 trace.finish()
             }
-            Err(back) => {
-                let (settled, why) = back;
-                tally.expect(null && why.number() == 13);
+            Err((settled, why)) => {
+                tally.expect(null && why == Refusal::NullCircuit);
                 settled
             }
         };
@@ -105,7 +69,6 @@ fn compare_settled<M: Columns>(
 
 // Compares a node's row at every place.
 fn compare_row<M: Columns>(
-    network: &Network,
     tables: &Tables<M>,
     settled: &Settled,
     node: usize,
@@ -113,27 +76,18 @@ fn compare_row<M: Columns>(
     tally: &mut Tally,
 ) {
     count(&mut tally.rows);
-    for place in 0..network.k {
-        match settled.length(
-            &tables.values,
-            &tables.counts,
-            node,
-            place.saturating_add(1),
-        ) {
-            Ok(Some(length)) => {
-                count(&mut tally.lengths);
-                tally.expect(network.kind.cost(&length) == row.get(place).copied());
-            }
-            Ok(None) => tally.expect(row.get(place).is_none()),
-            Err(_) => tally.expect(false),
+    for place in 1..=tables.k() {
+        let cost = tables.cost(settled, node, place);
+        if let Ok(Some(_)) = cost {
+            count(&mut tally.lengths);
         }
+        tally.expect(cost == Ok(row.get(place - 1).copied()));
     }
 }
 
 // Compares the paths that are handed out with the walks, one by one, and that none is left after them.
 fn compare_paths<M: Columns>(
     heap: Global,
-    network: &Network,
     tables: &mut Tables<M>,
     trace: &mut Trace,
     walks: &[Walk],
@@ -142,36 +96,9 @@ fn compare_paths<M: Columns>(
     count(&mut tally.targets);
     for walk in walks {
         count(&mut tally.paths);
-        match next_walk(heap, network, tables, trace)? {
-            Some(path) => tally.expect(path == *walk),
-            None => tally.expect(false),
-        }
+        let path = tables.next(heap, trace)?;
+        tally.expect(path.is_some_and(|path| path == *walk));
     }
-    tally.expect(next_walk(heap, network, tables, trace)?.is_none());
+    tally.expect(tables.next(heap, trace)?.is_none());
     Ok(())
-}
-
-// The next path that the trace hands out, as a walk.
-fn next_walk<M: Columns>(
-    heap: Global,
-    network: &Network,
-    tables: &mut Tables<M>,
-    trace: &mut Trace,
-) -> Result<Option<Walk>, AllocError> {
-    let Some((size, length)) = trace.next(
-        &tables.arcs,
-        &tables.lengths,
-        &tables.values,
-        &tables.counts,
-        &mut tables.work,
-        &mut tables.path,
-    ) else {
-        return Ok(None);
-    };
-    let Some(cost) = network.kind.cost(&length) else {
-        return Ok(None);
-    };
-    let mut backward: Vec<usize> = tables.path.iter().take(size).copied().collect(heap)?;
-    backward.reverse();
-    Ok(Some(Walk { cost, backward }))
 }

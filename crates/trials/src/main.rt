@@ -1,12 +1,11 @@
 // Networks drawn at random, solved by the operator and by a second solver, and every answer compared.
 #![tactic(auto)]
 
-use columns::Columns;
+use columns::{Columns, Kind};
 use measure::{Reversed, Sum, Then};
 
 mod comparing;
 mod cost;
-mod kinds;
 mod networks;
 mod operator;
 mod plain;
@@ -15,7 +14,6 @@ mod tally;
 mod walks_found;
 
 use comparing::compare;
-use kinds::Kind;
 use networks::Network;
 use random::Numbers;
 use tally::Tally;
@@ -26,8 +24,9 @@ const EACH: u64 = 1000;
 // Compares on the networks of one kind, and prints the counts.
 fn compare_kind<M: Columns>(rt: &HostRuntime, kind: Kind) -> anyhow::Result<Tally> {
     let heap = rt.alloc();
-    let number = kind.number();
-    let mut tally = Tally::new();
+    // kinds are numbered from 1, in the order of their variants
+    let number = kind as u8 + 1;
+    let mut tally = Tally::default();
     for i in 0..EACH {
         let before = tally.differences;
         let mut numbers = Numbers::seeded(u64::from(number) * EACH + i);
@@ -41,17 +40,13 @@ fn compare_kind<M: Columns>(rt: &HostRuntime, kind: Kind) -> anyhow::Result<Tall
     Ok(tally)
 }
 
-fn run(rt: &HostRuntime) -> anyhow::Result<()> {
-    let sums = compare_kind::<Sum>(rt, Kind::Sum)?;
-    let reversed = compare_kind::<Reversed<Sum>>(rt, Kind::ReversedSum)?;
-    let pairs = compare_kind::<Then<Sum, Sum>>(rt, Kind::SumThenSum)?;
-    let mixed = compare_kind::<Then<Sum, Reversed<Sum>>>(rt, Kind::SumThenReversed)?;
-    let all = sums.plus(reversed).plus(pairs).plus(mixed);
+fn main(rt: HostRuntime) -> anyhow::Result<()> {
+    let sums = compare_kind::<Sum>(&rt, Kind::Sum)?;
+    let reversed = compare_kind::<Reversed<Sum>>(&rt, Kind::ReversedSum)?;
+    let pairs = compare_kind::<Then<Sum, Sum>>(&rt, Kind::SumThenSum)?;
+    let mixed = compare_kind::<Then<Sum, Reversed<Sum>>>(&rt, Kind::SumThenReversed)?;
+    let all = sums + reversed + pairs + mixed;
     println!(rt; "all, {all}")?;
     println!(rt; "differences {}", all.differences)?;
     Ok(())
-}
-
-fn main(rt: HostRuntime) -> anyhow::Result<()> {
-    run(&rt)
 }

@@ -1,7 +1,7 @@
 // Networks drawn at random.
 use super::cost::Cost;
-use super::kinds::Kind;
 use super::random::Numbers;
+use columns::Kind;
 use std::alloc::{AllocError, Global};
 
 #[derive(Clone, Copy)]
@@ -81,17 +81,13 @@ impl Style {
     // The cost of an arc that climbs so high.
     fn cost(self, numbers: &mut Numbers, kind: Kind, climb: i64) -> Cost {
         let first = numbers.within(self.first.low, self.first.span);
-        let second = if kind.is_pair() {
+        let second = if kind.width() == 2 {
             numbers.within(self.second.low, self.second.span)
         } else {
             0
         };
-        Cost { first, second }
-            .plus(Cost {
-                first: climb,
-                second: 0,
-            })
-            .times(self.unit)
+        let first = first.saturating_add(climb);
+        Cost { first, second } * self.unit
     }
 }
 
@@ -138,14 +134,14 @@ impl Network {
         }
         let ends = arc_ends(heap, numbers, nodes)?;
         let mut arcs = Vec::new(heap);
-        for end in ends.iter() {
-            let start = other_node(numbers, *end, nodes);
-            let climb = height(&heights, *end).saturating_sub(height(&heights, start));
+        for end in ends {
+            let start = other_node(numbers, end, nodes);
+            let climb = height(&heights, end).saturating_sub(height(&heights, start));
             let cost = style.cost(numbers, kind, climb);
             let open = numbers.up_to(9) > 0;
             arcs.push(PlainArc {
                 start,
-                end: *end,
+                end,
                 cost,
                 open,
             })?;

@@ -1,63 +1,49 @@
-// The operator on a drawn network: its tables, and its draft.
-ghost use Rattle.std.specs.Prelude.{◌≡◌, replicate, IfOk};
-
+// The operator on a drawn network: its tables, its draft, its solve and its paths.
+use super::cost::Cost;
 use super::networks::Network;
+use super::walks_found::Walk;
 use columns::Columns;
 use measure::Measure;
-use session::{Arc, Draft, Refusal, Step};
+use session::{Arc, Draft, Order, Refusal, Settled, Solved, Step, Trace};
 use std::alloc::{AllocError, Global};
 
-const NO_ARC: Arc = Arc {
-    start: 0,
-    end: 0,
-    open: false,
-};
-
-const NO_STEP: Step = Step { arc: 0, place: 0 };
-
-// A table of so many cells, each with the same value.
-fn filled<T: Copy>(heap: Global, value: T, cells: usize) -> Result<Vec<T>, AllocError>
-    ensures { IfOk result (λ v. v.items ≡ replicate cells value) }
-{
-    let mut table = Vec::new(heap);
-    for _i in 0..cells {
-        table.push(value)?;
-    }
-    Ok(table)
-}
-
 #[derive(Drop)]
-pub struct Tables<M: Measure> {
-    pub arcs: Vec<Arc>,
-    pub lengths: Vec<M>,
-    pub values: Vec<M>,
-    pub counts: Vec<usize>,
-    pub work: Vec<Step>,
-    pub path: Vec<usize>,
+pub struct Tables<'a, M: Measure> {
+    network: &'a Network,
+    arcs: Vec<Arc>,
+    lengths: Vec<M>,
+    values: Vec<M>,
+    counts: Vec<usize>,
+    work: Vec<Step>,
+    path: Vec<usize>,
 }
 
-impl<M: Columns> Tables<M> {
+impl<'a, M: Columns> Tables<'a, M> {
     // Just as many cells as the network needs.
-    pub fn sized(heap: Global, network: &Network) -> Result<Tables<M>, AllocError> {
+    pub fn sized(heap: Global, network: &'a Network) -> Result<Tables<'a, M>, AllocError> {
         let arcs = network.arcs.len();
         let cells = network.nodes.saturating_mul(network.k);
         Ok(Tables {
-            arcs: filled(heap, NO_ARC, arcs)?,
-            lengths: filled(heap, M::null(), arcs)?,
-            values: filled(heap, M::null(), cells)?,
-            counts: filled(heap, 0, network.nodes)?,
-            work: filled(heap, NO_STEP, cells)?,
-            path: filled(heap, 0, cells)?,
+            network,
+            arcs: vec![in heap; Arc::default(); arcs]?,
+            lengths: vec![in heap; M::null(); arcs]?,
+            values: vec![in heap; M::null(); cells]?,
+            counts: vec![in heap; 0; network.nodes]?,
+            work: vec![in heap; Step::default(); cells]?,
+            path: vec![in heap; 0; cells]?,
         })
     }
 
+    // How many lengths a row keeps at most.
+    pub fn k(&self) -> usize {
+        self.network.k
+    }
+
     // A draft with the network's arcs.
-    pub fn draft(&mut self, network: &Network) -> Result<Draft, Refusal> {
-        let mut draft = Draft::new(network.nodes)?;
-        for arc in network.arcs.iter() {
-            let Some(length) = network.kind.length::<M>(arc.cost) else {
-                return Err(Refusal::TooLong);
-            };
+    fn draft(&mut self) -> Result<Draft, Refusal> {
+        let mut draft = Draft::new(self.network.nodes)?;
+        for arc in &self.network.arcs {
+            let length = arc.cost.length(self.network.kind).ok_or(Refusal::TooLong)?;
             let number = draft.put(
                 &mut self.arcs,
                 &mut self.lengths,
@@ -70,5 +56,54 @@ impl<M: Columns> Tables<M> {
             }
         }
         Ok(draft)
+    }
+
+    pub fn solved(&mut self) -> Result<(Settled, Solved), Refusal> {
+        let draft = self.draft()?;
+        let order = Order::new(self.network.k, self.network.source)?;
+        draft
+            .solve(
+                order,
+                &self.arcs,
+                &self.lengths,
+                &mut self.values,
+                &mut self.counts,
+            )
+            .map_err(|(_, why)| why)
+    }
+
+    // The cost at a place of a node's row; none past its end.
+    pub fn cost(
+        &self,
+        settled: &Settled,
+        node: usize,
+        place: usize,
+    ) -> Result<Option<Cost>, Refusal> {
+        let length = settled.length(&self.values, &self.counts, node, place)?;
+        Ok(length.and_then(|length| Cost::of(self.network.kind, &length)))
+    }
+
+    pub fn trace(&self, settled: Settled, node: usize) -> Result<Trace, (Settled, Refusal)> {
+        settled.trace(node, &self.work, &self.path)
+    }
+
+    // The next path that the trace hands out, as a walk.
+    pub fn next(&mut self, heap: Global, trace: &mut Trace) -> Result<Option<Walk>, AllocError> {
+        let Some((size, length)) = trace.next(
+            &self.arcs,
+            &self.lengths,
+            &self.values,
+            &self.counts,
+            &mut self.work,
+            &mut self.path,
+        ) else {
+            return Ok(None);
+        };
+        let Some(cost) = Cost::of(self.network.kind, &length) else {
+            return Ok(None);
+        };
+        let mut backward: Vec<usize> = self.path.iter().take(size).copied().collect(heap)?;
+        backward.reverse();
+        Ok(Some(Walk { cost, backward }))
     }
 }

@@ -4,9 +4,10 @@ use super::networks::{Network, PlainArc};
 use std::alloc::{AllocError, Global};
 use std::collections::{BTreeMap, BTreeSet};
 
-// The first length of each node that is reached.
+// The first length of each node of a network that is reached.
 #[derive(Drop)]
-pub struct Firsts {
+pub struct Firsts<'a> {
+    pub network: &'a Network,
     lengths: BTreeMap<usize, Cost>,
 }
 
@@ -17,32 +18,28 @@ struct Label {
     node: usize,
 }
 
-impl Firsts {
+impl<'a> Firsts<'a> {
     // None where some walk from the source reaches a negative circuit.
-    pub fn found(heap: Global, network: &Network) -> Result<Option<Firsts>, AllocError> {
+    pub fn found(heap: Global, network: &'a Network) -> Result<Option<Firsts<'a>>, AllocError> {
         let mut lengths = BTreeMap::new(heap);
         lengths.insert(network.source, NULL)?;
-        let mut firsts = Firsts { lengths };
+        let mut firsts = Firsts { network, lengths };
         let mut lower = false;
         for _ in 0..network.nodes {
-            lower = firsts.lower(network)?;
+            lower = firsts.lower()?;
         }
         Ok(if lower { None } else { Some(firsts) })
     }
 
     // One round over the open arcs; tells whether it changed a length.
-    fn lower(&mut self, network: &Network) -> Result<bool, AllocError> {
+    fn lower(&mut self) -> Result<bool, AllocError> {
         let mut changed = false;
-        for arc in network.arcs.iter() {
+        for arc in &self.network.arcs {
             if arc.open
                 && let Some(start) = self.of(arc.start)
             {
-                let length = start.plus(arc.cost);
-                let better = match self.of(arc.end) {
-                    Some(old) => length < old,
-                    None => true,
-                };
-                if better {
+                let length = start + arc.cost;
+                if self.of(arc.end).is_none_or(|old| length < old) {
                     self.lengths.insert(arc.end, length)?;
                     changed = true;
                 }
@@ -62,56 +59,52 @@ impl Firsts {
         }
         let start = self.of(arc.start)?;
         let end = self.of(arc.end)?;
-        Some(start.plus(arc.cost).minus(end))
+        Some(start + arc.cost - end)
     }
 
     // Whether a null circuit is reached: whether arcs that add null lead from some node back to it.
-    pub fn null_circuit(&self, heap: Global, network: &Network) -> Result<bool, AllocError> {
+    pub fn null_circuit(&self, heap: Global) -> Result<bool, AllocError> {
         let mut joined = BTreeSet::new(heap);
-        for arc in network.arcs.iter() {
+        for arc in &self.network.arcs {
             if self.reduced(arc) == Some(NULL) {
                 joined.insert((arc.start, arc.end))?;
             }
         }
-        for via in 1..=network.nodes {
-            for start in 1..=network.nodes {
-                for end in 1..=network.nodes {
+        let nodes = self.network.nodes;
+        for via in 1..=nodes {
+            for start in 1..=nodes {
+                for end in 1..=nodes {
                     if joined.contains(&(start, via)) && joined.contains(&(via, end)) {
                         joined.insert((start, end))?;
                     }
                 }
             }
         }
-        for node in 1..=network.nodes {
-            if joined.contains(&(node, node)) {
-                return Ok(true);
-            }
-        }
-        Ok(false)
+        Ok((1..=nodes).any(|node| joined.contains(&(node, node))))
     }
 
     // The rows of all nodes, by node; number 0 stays empty. Labels are taken from the lowest on, so a row comes in order.
-    pub fn rows(&self, heap: Global, network: &Network) -> Result<Vec<Vec<Cost>>, AllocError> {
+    pub fn rows(&self, heap: Global) -> Result<Vec<Vec<Cost>>, AllocError> {
         let mut rows = Vec::new(heap);
-        for _ in 0..=network.nodes {
+        for _ in 0..=self.network.nodes {
             rows.push(Vec::new(heap))?;
         }
         let mut labels = BTreeSet::new(heap);
         labels.insert(Label {
             reduced: NULL,
-            node: network.source,
+            node: self.network.source,
         })?;
-        for _ in 0..=network.k.saturating_mul(network.arcs.len()) {
+        for _ in 0..=self.network.k.saturating_mul(self.network.arcs.len()) {
             let Some(label) = labels.pop_first() else {
                 break;
             };
-            if self.enter(label, network.k, &mut rows)? {
-                for arc in network.arcs.iter() {
+            if self.enter(label, &mut rows)? {
+                for arc in &self.network.arcs {
                     if arc.start == label.node
                         && let Some(more) = self.reduced(arc)
                     {
                         labels.insert(Label {
-                            reduced: label.reduced.plus(more),
+                            reduced: label.reduced + more,
                             node: arc.end,
                         })?;
                     }
@@ -122,15 +115,12 @@ impl Firsts {
     }
 
     // Puts a label's length at the end of its row, and tells whether it is new there and has a place.
-    fn enter(&self, label: Label, k: usize, rows: &mut Vec<Vec<Cost>>) -> Result<bool, AllocError> {
-        let Some(first) = self.of(label.node) else {
+    fn enter(&self, label: Label, rows: &mut Vec<Vec<Cost>>) -> Result<bool, AllocError> {
+        let (Some(first), Some(row)) = (self.of(label.node), rows.get_mut(label.node)) else {
             return Ok(false);
         };
-        let Some(row) = rows.get_mut(label.node) else {
-            return Ok(false);
-        };
-        let length = label.reduced.plus(first);
-        if row.len() >= k || row.last().copied() == Some(length) {
+        let length = label.reduced + first;
+        if row.len() >= self.network.k || row.last().copied() == Some(length) {
             return Ok(false);
         }
         row.push(length)?;

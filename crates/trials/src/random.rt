@@ -1,4 +1,4 @@
-// Numbers that look random, the same in every run.
+// Numbers that look random, the same in every run. The crate timing has another generator; what each prints is pinned.
 ghost use Rattle.std.specs.Prelude.{◌≡◌, ◌≤◌, pos, ◌+ℤ◌, ◌≤ℤ◌};
 
 #[derive(Drop)]

@@ -1,7 +1,8 @@
 // What was compared, and how often the two solvers differ.
 use std::fmt;
+use std::ops::Add;
 
-#[derive(Clone, Copy)]
+#[derive(Clone, Copy, Default)]
 pub struct Tally {
     pub networks: u64,
     pub refused: u64,
@@ -16,29 +17,18 @@ pub struct Tally {
 }
 
 impl Tally {
-    pub fn new() -> Tally {
-        Tally {
-            networks: 0,
-            refused: 0,
-            null: 0,
-            traced: 0,
-            rows: 0,
-            lengths: 0,
-            targets: 0,
-            paths: 0,
-            crowded: 0,
-            differences: 0,
-        }
-    }
-
     // Counts a difference unless the two agree.
     pub fn expect(&mut self, agree: bool) {
         if !agree {
             count(&mut self.differences);
         }
     }
+}
 
-    pub fn plus(self, other: Tally) -> Tally {
+impl Add for Tally {
+    type Output = Tally;
+
+    fn add(self, other: Tally) -> Tally {
         Tally {
             networks: self.networks.saturating_add(other.networks),
             refused: self.refused.saturating_add(other.refused),
