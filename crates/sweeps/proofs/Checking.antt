@@ -1,11 +1,12 @@
 -- What looking at the arc tables keeps from arc to arc.
-use Rattle.std.proofs.Common.{◌≡◌, ℕ, suc, ◌+◌, ◌^◌, ◌<◌, ◌≤◌, List, length, get_or, set, sym, refl, ap, subst, inl, inr, add-one, arith}
+use Rattle.std.proofs.Common.{◌≡◌, ℕ, suc, ◌+◌, ◌^◌, ◌<◌, ◌≤◌, List, length, get_or, set, sym, ap, ◌∙◌, subst, inl, inr, add-one, arith}
 use Rattle.std.proofs.lemmas.List.{get_or-set_same, get_or-set_other}
 use Rattle.std.proofs.lemmas.Bool.{cases_eq}
 use Rattle.measure.specs.Algebra.{Algebra}
 use Rattle.walks.specs.Networks.{Network, ProperArc}
 use Rattle.sweeps.specs.declared.Arc.{Arc}
 use Rattle.sweeps.specs.Tables.{network, no_arc, InOrder}
+use Rattle.sweeps.specs.Firsts.{over_arc, over_at}
 use Rattle.sweeps.specs.Nodes.{FitsArc, Indexed}
 
 module _ {V : Type 0} (m : Algebra V) (net : Network V) where
@@ -18,8 +19,8 @@ module _ {V : Type 0} (m : Algebra V) (net : Network V) where
   pub checked_none : net.end 0 ≡ 0 → Checked 0 0
   checked_none e = record { proper = λ b low high. absurd (omega arith); sorted = λ b c low le high. absurd (omega arith); last_end = sym e }
 
-  pub checked_more : (a last : ℕ) → Checked a last → ProperArc m net (suc a) → last ≤ net.end (suc a) → Checked (a + 1) (net.end (suc a))
-  checked_more a last h p le = subst (λ z. Checked z (net.end (suc a))) (sym (add-one a)) (record {
+  pub checked_more : (a last a' last' : ℕ) → Checked a last → a' ≡ a + 1 → last' ≡ net.end (suc a) → ProperArc m net (suc a) → last ≤ last' → Checked a' last'
+  checked_more a last a' last' h next ends p le = subst (λ z. Checked z last') (sym (next ∙ add-one a)) (record {
     proper = λ b low high. elim (cases_eq b (suc a)) [ inl e ↦ subst (ProperArc m net) (sym e) p | inr ne ↦ h.proper b low (omega arith) ];
     sorted = λ b c low less high. elim (cases_eq c (suc a)) [
       | inl e ↦ elim (cases_eq b (suc a)) [
@@ -31,25 +32,31 @@ module _ {V : Type 0} (m : Algebra V) (net : Network V) where
       ]
       | inr ne ↦ h.sorted b c low less (omega arith)
     ];
-    last_end = refl;
+    last_end = ends;
   })
 
   pub checked_all : (a last : ℕ) → a ≡ net.arcs → Checked a last → InOrder m net
   checked_all a last e h = record { proper = λ b low high. h.proper b low (omega arith); sorted = λ b c low less high. h.sorted b c low less (omega arith) }
 
-  pub checked_falls : (a last : ℕ) → net.end 0 ≡ 0 → a < net.arcs → Checked a last → net.end (suc a) < last → ¬ InOrder m net
-  checked_falls a last none lt h falls order = elim (cases_eq a 0) [
+  pub checked_falls : (a last end : ℕ) → net.end 0 ≡ 0 → a < net.arcs → Checked a last → end ≡ net.end (suc a) → end < last → ¬ InOrder m net
+  checked_falls a last end none lt h ends falls order = elim (cases_eq a 0) [
     | inl z ↦ omega (arith, h.last_end, ap net.end z)
     | inr more ↦ omega (arith, h.last_end, order.sorted a (suc a) (omega arith) (omega arith) (omega arith))
   ]
 
-pub fits_proper : {V : Type 0} (m : Algebra V) (n : ℕ) (arcs : List Arc) (lengths : List V) (a : ℕ) (x : V) → x ≡ get_or lengths a m.null → FitsArc m n (get_or arcs a no_arc) x → ProperArc m (network m n arcs lengths) (suc a)
-fits_proper m n arcs lengths a x e f =
-    record { start_low = f.start_low; start_high = f.start_high; end_low = f.end_low; end_high = f.end_high; apart = f.apart; small = subst (λ z. m.magnitude z ≤ 10 ^ 9) e f.small }
+module _ {V : Type 0} (m : Algebra V) (n : ℕ) (arcs : List Arc) (lengths : List V) (a : ℕ) (arc : Arc) (x : V) (arc_is : arc ≡ get_or arcs a no_arc) (x_is : x ≡ get_or lengths a m.null) where
+  pub fits_proper : FitsArc m n arc x → ProperArc m (network m n arcs lengths) (suc a)
+  fits_proper f =
+      let g : FitsArc m n (get_or arcs a no_arc) (get_or lengths a m.null) = subst (λ z. FitsArc m n z (get_or lengths a m.null)) arc_is (subst (FitsArc m n arc) x_is f) in
+      record { start_low = g.start_low; start_high = g.start_high; end_low = g.end_low; end_high = g.end_high; apart = g.apart; small = g.small }
 
-pub proper_fits : {V : Type 0} (m : Algebra V) (n : ℕ) (arcs : List Arc) (lengths : List V) (a : ℕ) (x : V) → x ≡ get_or lengths a m.null → ProperArc m (network m n arcs lengths) (suc a) → FitsArc m n (get_or arcs a no_arc) x
-proper_fits m n arcs lengths a x e f =
-    record { start_low = f.start_low; start_high = f.start_high; end_low = f.end_low; end_high = f.end_high; apart = f.apart; small = subst (λ z. m.magnitude z ≤ 10 ^ 9) (sym e) f.small }
+  pub proper_fits : ProperArc m (network m n arcs lengths) (suc a) → FitsArc m n arc x
+  proper_fits p =
+      let g : FitsArc m n (get_or arcs a no_arc) (get_or lengths a m.null) = record { start_low = p.start_low; start_high = p.start_high; end_low = p.end_low; end_high = p.end_high; apart = p.apart; small = p.small } in
+      subst (λ z. FitsArc m n z x) (sym arc_is) (subst (FitsArc m n (get_or arcs a no_arc)) (sym x_is) g)
+
+  pub over_read : (k : ℕ) (values : List V) (counts : List ℕ) → over_arc m k values counts arc x ≡ over_at m (network m n arcs lengths) k values counts (suc a)
+  over_read k values counts = ap (λ z. over_arc m k values counts z x) arc_is ∙ ap (over_arc m k values counts (get_or arcs a no_arc)) x_is
 
 module _ {V : Type 0} (net : Network V) where
   -- all arcs up to `below` end at j or below

@@ -3,33 +3,33 @@ use Rattle.std.proofs.Common.{◌≡◌, ℕ, zero, suc, ◌+◌, ◌-◌, ◌<�
 use lib.Seq.{take-append-add, drop-append-le}
 use Rattle.std.proofs.lemmas.List.{take_more, take_more_set, drop_more, get_or-take, drop-set-lt, drop_all, take_all, take_at, take-take, get_or_default}
 use Rattle.std.proofs.lemmas.Bool.{lt-ltb, le-ltb, cases_eq, cases_lt, and_parts, cond_both, ltb-true, true≢false, false≢true}
-use Rattle.std.specs.Ordering.{ordering_reverse}
+use Rattle.std.specs.Ordering.{is_eq, is_gt, ordering_reverse}
 use Rattle.measure.specs.Algebra.{Algebra, Laws, Before}
 use Rattle.walks.specs.Rows.{BeforeAll, Ascending}
 use Rattle.walks.specs.Method.{choose, place}
 use Rattle.walks.proofs.Orders.{greater}
-use Rattle.sweeps.specs.Places.{is_after, is_same, fresh, first_cell, RowPlaced}
+use Rattle.sweeps.specs.Places.{fresh, first_cell, RowPlaced}
 
-pub tells_after : (o : Ordering) → true ≡ is_after o → o ≡ Greater
+pub tells_after : (o : Ordering) → true ≡ is_gt o → o ≡ Greater
 tells_after Less e = absurd (true≢false e)
 tells_after Equal e = absurd (true≢false e)
 tells_after Greater e = refl
 
-pub tells_same : (o : Ordering) → true ≡ is_same o → o ≡ Equal
+pub tells_same : (o : Ordering) → true ≡ is_eq o → o ≡ Equal
 tells_same Less e = absurd (true≢false e)
 tells_same Equal e = refl
 tells_same Greater e = absurd (true≢false e)
 
-tells_before : (o : Ordering) → false ≡ is_after o → false ≡ is_same o → o ≡ Less
+tells_before : (o : Ordering) → false ≡ is_gt o → false ≡ is_eq o → o ≡ Less
 tells_before Less e f = refl
 tells_before Equal e f = absurd (false≢true f)
 tells_before Greater e f = absurd (false≢true e)
 
-or_true : (a : Bool) → (a || true) ≡ true
+pub or_true : (a : Bool) → (a || true) ≡ true
 or_true true = refl
 or_true false = refl
 
-or_false : (a : Bool) → (a || false) ≡ a
+pub or_false : (a : Bool) → (a || false) ≡ a
 or_false true = refl
 or_false false = refl
 
@@ -120,14 +120,14 @@ module _ {V : Type 0} (m : Algebra V) where
 
     -- the cells before the first one to compare x with are before x
     pub first_low : (from : ℕ) → from ≤ count → first_cell m row0 from x ≤ count
-    first_low from le = cond_both (ltb 0 from && is_after (m.compare x (get_or row0 (from - 1) x))) from 0 (λ z. z ≤ count) (λ t. le) (λ f. omega arith)
+    first_low from le = cond_both (ltb 0 from && is_gt (m.compare x (get_or row0 (from - 1) x))) from 0 (λ z. z ≤ count) (λ t. le) (λ f. omega arith)
 
     pub first_past : Laws m → (from : ℕ) → from ≤ count → Ascending m (take count row0) → Past row0 count x (first_cell m row0 from x)
-    first_past laws from le up = cond_both (ltb 0 from && is_after (m.compare x (get_or row0 (from - 1) x))) from 0 (Past row0 count x) yes (λ f. past_none)
+    first_past laws from le up = cond_both (ltb 0 from && is_gt (m.compare x (get_or row0 (from - 1) x))) from 0 (Past row0 count x) yes (λ f. past_none)
       where
-        yes : (ltb 0 from && is_after (m.compare x (get_or row0 (from - 1) x))) ≡ true → Past row0 count x from
+        yes : (ltb 0 from && is_gt (m.compare x (get_or row0 (from - 1) x))) ≡ true → Past row0 count x from
         yes t =
-            let b = and_parts (ltb 0 from) (is_after (m.compare x (get_or row0 (from - 1) x))) t in
+            let b = and_parts (ltb 0 from) (is_gt (m.compare x (get_or row0 (from - 1) x))) t in
             let some = ltb-true 0 from b.0 in
             let after : m.compare x (get_or (take count row0) (from - 1) x) ≡ Greater = ap (m.compare x) (get_or-take count row0 (from - 1) x (omega arith)) ∙ tells_after (m.compare x (get_or row0 (from - 1) x)) (sym b.1) in
             record { low = le; all = λ p lt. ap (m.compare x) (sym (get_or-take count row0 p x (omega arith))) ∙ earlier laws x x (take count row0) (from - 1) up (omega (arith, long)) after p (omega arith) }
@@ -142,11 +142,11 @@ module _ {V : Type 0} (m : Algebra V) where
           ];
         }
 
-    pub next_less : (i : ℕ) (d e : V) → i < count → false ≡ is_after (m.compare x (get_or row0 i d)) → false ≡ is_same (m.compare x (get_or row0 i e)) → m.compare x (get_or row0 i x) ≡ Less
+    pub next_less : (i : ℕ) (d e : V) → i < count → false ≡ is_gt (m.compare x (get_or row0 i d)) → false ≡ is_eq (m.compare x (get_or row0 i e)) → m.compare x (get_or row0 i x) ≡ Less
     next_less i d e below after same =
         tells_before _
-        (after ∙ ap (λ z. is_after (m.compare x z)) (get_or_default row0 i d x (omega arith)))
-        (same ∙ ap (λ z. is_same (m.compare x z)) (get_or_default row0 i e x (omega arith)))
+        (after ∙ ap (λ z. is_gt (m.compare x z)) (get_or_default row0 i d x (omega arith)))
+        (same ∙ ap (λ z. is_eq (m.compare x z)) (get_or_default row0 i e x (omega arith)))
 
     pub placed_same : (i : ℕ) (d : V) → Seeks row0 count x i → i < count → m.compare x (get_or row0 i d) ≡ Equal → RowPlaced m row0 count was x row0 count was (i + 1)
     placed_same i d h below equal =
@@ -247,8 +247,8 @@ module _ {V : Type 0} (m : Algebra V) where
             flag = λ up. sym (or_true was) ∙ flagged up true (sym (ap (λ b. ltb at count || b) (lt-ltb count (length row0) (omega (arith, end.size))) ∙ or_true (ltb at count)));
           }
 
-      pub placed_full : length row ≤ count → (changed : Bool) → changed ≡ (was || ltb at count) → RowPlaced m row0 count was x row count changed at
-      placed_full full changed told =
+      pub placed_full : length row ≤ count → RowPlaced m row0 count was x row count (was || ltb at count) at
+      placed_full full =
           let n : length (take count row) ≡ length row0 = length-take count row ∙ omega (arith, end.size) in
           record {
             next_in = omega arith;
@@ -256,5 +256,5 @@ module _ {V : Type 0} (m : Algebra V) where
             bound = fits;
             lengths = λ up. sym (all_of up ∙ take_at (take count row) (carry ∷ []) (length row0) n);
             rest = end.ahead;
-            flag = λ up. told ∙ flagged up (ltb at count) (sym (ap (λ b. ltb at count || b) (le-ltb count (length row0) (omega (arith, end.size))) ∙ or_false (ltb at count)));
+            flag = λ up. flagged up (ltb at count) (sym (ap (λ b. ltb at count || b) (le-ltb count (length row0) (omega (arith, end.size))) ∙ or_false (ltb at count)));
           }

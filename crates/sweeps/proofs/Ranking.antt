@@ -6,11 +6,8 @@ use Rattle.measure.specs.Algebra.{Algebra}
 use Rattle.walks.specs.Networks.{Network}
 use Rattle.sweeps.specs.Tables.{start_of, count_of, InOrder}
 use Rattle.sweeps.specs.Nodes.{Shape}
-use Rattle.sweeps.specs.Ranks.{left, first_length_of, Blocked, Free, Climbs, Stuck, Scanned}
+use Rattle.sweeps.specs.Ranks.{left, Blocked, Free, Climbs, Stuck, Scanned}
 use Rattle.sweeps.proofs.Working.{row_end}
-
-pub first_in : (n k size j : ℕ) (counts : List ℕ) → Shape n k size counts → 1 ≤ k → 1 ≤ j → j ≤ n → start_of k j < size
-first_in n k size j counts shape some one le = omega (arith, row_end k j one, mul-le-mul_right k le, shape.rows)
 
 left_set : (rs : List ℕ) (i r : ℕ) → i < length rs → get_or rs i 0 ≡ 0 → left rs ≡ suc (left (set rs i (suc r)))
 left_set [] i r lt e = absurd (omega arith)
@@ -18,10 +15,6 @@ left_set (zero ∷ rs) zero r lt e = refl
 left_set (suc x ∷ rs) zero r lt e = absurd (omega arith)
 left_set (zero ∷ rs) (suc i) r lt e = ap suc (left_set rs i r (omega arith) e)
 left_set (suc x ∷ rs) (suc i) r lt e = left_set rs i r (omega arith) e
-
-pub first_some : {V : Type 0} (m : Algebra V) (k : ℕ) (values : List V) (counts : List ℕ) (j : ℕ) (x : V) → ¬ (count_of counts j ≡ 0) → x ≡ get_or values (start_of k j) x → start_of k j < length values → Some x ≡ first_length_of m k values counts j
-first_some m k values counts j x held read lt =
-    ap Some (get_or_read values (start_of k j) x lt read m.null) ∙ sym (cond-true (ltb 0 (count_of counts j)) (Some (get_or values (start_of k j) m.null)) None (lt-ltb 0 (count_of counts j) (omega arith)))
 
 module _ {V : Type 0} (m : Algebra V) (net : Network V) (k : ℕ) (values : List V) (counts : List ℕ) where
   pub climbs_more : InOrder m net → (ranks : List ℕ) (total i : ℕ) → i < length ranks → get_or ranks i 0 ≡ 0 → Climbs m net k values counts ranks total → Free m net k values counts ranks (i + 1) → Climbs m net k values counts (set ranks i (total + 1)) (total + 1)
