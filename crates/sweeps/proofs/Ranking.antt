@@ -1,12 +1,13 @@
 -- What ranking the nodes keeps.
-use Rattle.std.proofs.Common.{◌≡◌, ℕ, zero, suc, ◌+◌, ◌-◌, ◌<◌, ◌≤◌, ltb, List, [], ◌∷◌, length, get_or, set, replicate, Some, None, sym, refl, ap, ◌∙◌, subst, inl, inr, mul-le-mul_right, add-one, arith, length-set}
-use Rattle.std.proofs.lemmas.List.{get_or-set_same, get_or-set_other, get_or_read}
-use Rattle.std.proofs.lemmas.Bool.{cases_eq, lt-ltb, cond-true}
+use Rattle.std.proofs.Common.{◌≡◌, ℕ, zero, suc, ◌+◌, ◌-◌, ◌<◌, ◌≤◌, Bool, true, false, eqb, List, [], ◌∷◌, length, get_or, take, set, replicate, sym, refl, ap, ◌∙◌, subst, inl, inr, mul-le-mul_right, add-one, arith, length-set, length-take}
+use Rattle.std.proofs.lemmas.List.{get_or-set_same, get_or-set_other, get_or-take}
+use Rattle.std.specs.List.{IsAnyAnswer}
+use Rattle.std.proofs.lemmas.Bool.{cases_eq, eqb-true, eqb-false}
 use Rattle.measure.specs.Algebra.{Algebra}
 use Rattle.walks.specs.Networks.{Network}
 use Rattle.sweeps.specs.Tables.{start_of, count_of, InOrder}
 use Rattle.sweeps.specs.Nodes.{Shape}
-use Rattle.sweeps.specs.Ranks.{left, Blocked, Free, Climbs, Stuck, Scanned}
+use Rattle.sweeps.specs.Ranks.{left, Blocked, Free, Climbs, Stuck, Scanned, Verdict}
 use Rattle.sweeps.proofs.Working.{row_end}
 
 left_set : (rs : List ℕ) (i r : ℕ) → i < length rs → get_or rs i 0 ≡ 0 → left rs ≡ suc (left (set rs i (suc r)))
@@ -78,6 +79,15 @@ module _ {V : Type 0} (m : Algebra V) (net : Network V) (k : ℕ) (values : List
 
   pub part_all : (ranked : ℕ) (ranks : List ℕ) (total i : ℕ) → i ≡ net.nodes → Part ranked ranks total i → Scanned m net k values counts ranked ranks total
   part_all ranked ranks total i e h = record { climbs = h.climbs; grows = h.grows; still = λ z. subst (Stuck m net k values counts ranks) e (h.still z) }
+
+  -- what looking for a node that is not ranked answers
+  pub verdict_of : (ranks : List ℕ) → net.nodes ≤ length ranks → (r : Bool) → IsAnyAnswer (λ y b. eqb y 0 ≡ b) (take net.nodes ranks) r → Verdict m net k values counts ranks r
+  verdict_of ranks room true h =
+      let lt : h.0 < net.nodes = omega (arith, h.1, length-take net.nodes ranks) in
+      (h.0, lt, sym (get_or-take net.nodes ranks h.0 0 lt) ∙ eqb-true _ 0 (h.2 0))
+  verdict_of ranks room false h = λ i lt.
+      let ne = eqb-false _ 0 (h i 0 (omega arith) (omega (arith, length-take net.nodes ranks))) in
+      omega (arith, get_or-take net.nodes ranks i 0 lt)
 
 left_none : (n : ℕ) → left (replicate n 0) ≡ n
 left_none zero = refl

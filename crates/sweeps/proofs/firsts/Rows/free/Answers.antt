@@ -26,7 +26,7 @@ overflow_sub-arc g c =
     let ks : iter_rest (zip_first s) ≡ part = ap (λ z. iter_rest (zip_first z)) c.into_iter-arc-iterator.ensures.into_iter_gives ∙ ap iter_rest c.zip-arc-items.ensures.first ∙ c.iter.ensures.rest in
     let vs : iter_rest (zip_second s) ≡ parts = ap (λ z. iter_rest (zip_second z)) c.into_iter-arc-iterator.ensures.into_iter_gives ∙ c.zip-arc-items.ensures.second.0 in
     let b = block_item m net.nodes net.arcs.now net.lengths.now net.first.now net.known c.args.j c.requires.low c.requires.high part parts c.into_node.ensures.arcs c.into_node.ensures.lengths n c.in-Some.arc.now c.in-Some.x.now
-        (zip_turn part parts c.loop-arc.yielded s c.loop-arc.arc-iterator c.next.new.self c.next.result ks vs c.loop-arc.yielded_by (c.in-Some.arc, c.in-Some.x) c.in-Some.is c.next.ensures.steps) in
+    (zip_turn part parts c.loop-arc.yielded s c.loop-arc.arc-iterator c.next.new.self c.next.result ks vs c.loop-arc.yielded_by (c.in-Some.arc, c.in-Some.x) c.in-Some.is c.next.ensures.steps) in
     let a = get_or net.first.now (c.args.j - 1) 0 + n in
     omega (arith, b.block.low, ap (λ z. z.start) b.arc_is)
 
@@ -42,7 +42,7 @@ bounds-ranks-arc g c =
     let ks : iter_rest (zip_first s) ≡ part = ap (λ z. iter_rest (zip_first z)) c.into_iter-arc-iterator.ensures.into_iter_gives ∙ ap iter_rest c.zip-arc-items.ensures.first ∙ c.iter.ensures.rest in
     let vs : iter_rest (zip_second s) ≡ parts = ap (λ z. iter_rest (zip_second z)) c.into_iter-arc-iterator.ensures.into_iter_gives ∙ c.zip-arc-items.ensures.second.0 in
     let b = block_item m net.nodes net.arcs.now net.lengths.now net.first.now net.known c.args.j c.requires.low c.requires.high part parts c.into_node.ensures.arcs c.into_node.ensures.lengths n c.in-Some.arc.now c.in-Some.x.now
-        (zip_turn part parts c.loop-arc.yielded s c.loop-arc.arc-iterator c.next.new.self c.next.result ks vs c.loop-arc.yielded_by (c.in-Some.arc, c.in-Some.x) c.in-Some.is c.next.ensures.steps) in
+    (zip_turn part parts c.loop-arc.yielded s c.loop-arc.arc-iterator c.next.new.self c.next.result ks vs c.loop-arc.yielded_by (c.in-Some.arc, c.in-Some.x) c.in-Some.is c.next.ensures.steps) in
     let a = get_or net.first.now (c.args.j - 1) 0 + n in
     omega (arith, b.block.low, b.block.high, ap (λ z. z.start) b.arc_is, c.requires.room)
 
@@ -58,7 +58,7 @@ tight-requires g c =
     let ks : iter_rest (zip_first s) ≡ part = ap (λ z. iter_rest (zip_first z)) c.into_iter-arc-iterator.ensures.into_iter_gives ∙ ap iter_rest c.zip-arc-items.ensures.first ∙ c.iter.ensures.rest in
     let vs : iter_rest (zip_second s) ≡ parts = ap (λ z. iter_rest (zip_second z)) c.into_iter-arc-iterator.ensures.into_iter_gives ∙ c.zip-arc-items.ensures.second.0 in
     let b = block_item m net.nodes net.arcs.now net.lengths.now net.first.now net.known c.args.j c.requires.low c.requires.high part parts c.into_node.ensures.arcs c.into_node.ensures.lengths n c.in-Some.arc.now c.in-Some.x.now
-        (zip_turn part parts c.loop-arc.yielded s c.loop-arc.arc-iterator c.next.new.self c.next.result ks vs c.loop-arc.yielded_by (c.in-Some.arc, c.in-Some.x) c.in-Some.is c.next.ensures.steps) in
+    (zip_turn part parts c.loop-arc.yielded s c.loop-arc.arc-iterator c.next.new.self c.next.result ks vs c.loop-arc.yielded_by (c.in-Some.arc, c.in-Some.x) c.in-Some.is c.next.ensures.steps) in
     let a = get_or net.first.now (c.args.j - 1) 0 + n in
     proper_fits m net.nodes net.arcs.now net.lengths.now a _ _ b.arc_is b.x_is (net.known.ordered.proper (suc a) (omega arith) (omega (arith, b.block.inside)))
 
@@ -74,7 +74,7 @@ returns-then-tight g c =
     let ks : iter_rest (zip_first s) ≡ part = ap (λ z. iter_rest (zip_first z)) c.into_iter-arc-iterator.ensures.into_iter_gives ∙ ap iter_rest c.zip-arc-items.ensures.first ∙ c.iter.ensures.rest in
     let vs : iter_rest (zip_second s) ≡ parts = ap (λ z. iter_rest (zip_second z)) c.into_iter-arc-iterator.ensures.into_iter_gives ∙ c.zip-arc-items.ensures.second.0 in
     let b = block_item m net.nodes net.arcs.now net.lengths.now net.first.now net.known c.args.j c.requires.low c.requires.high part parts c.into_node.ensures.arcs c.into_node.ensures.lengths n c.in-Some.arc.now c.in-Some.x.now
-        (zip_turn part parts c.loop-arc.yielded s c.loop-arc.arc-iterator c.next.new.self c.next.result ks vs c.loop-arc.yielded_by (c.in-Some.arc, c.in-Some.x) c.in-Some.is c.next.ensures.steps) in
+    (zip_turn part parts c.loop-arc.yielded s c.loop-arc.arc-iterator c.next.new.self c.next.result ks vs c.loop-arc.yielded_by (c.in-Some.arc, c.in-Some.x) c.in-Some.is c.next.ensures.steps) in
     let a = get_or net.first.now (c.args.j - 1) 0 + n in
     record {
       arc = suc a;
@@ -97,7 +97,7 @@ loop-arc-preserved g c = λ i low high t.
     let ks : iter_rest (zip_first s) ≡ part = ap (λ z. iter_rest (zip_first z)) c.into_iter-arc-iterator.ensures.into_iter_gives ∙ ap iter_rest c.zip-arc-items.ensures.first ∙ c.iter.ensures.rest in
     let vs : iter_rest (zip_second s) ≡ parts = ap (λ z. iter_rest (zip_second z)) c.into_iter-arc-iterator.ensures.into_iter_gives ∙ c.zip-arc-items.ensures.second.0 in
     let b = block_item m net.nodes net.arcs.now net.lengths.now net.first.now net.known c.args.j c.requires.low c.requires.high part parts c.into_node.ensures.arcs c.into_node.ensures.lengths n c.in-Some.arc.now c.in-Some.x.now
-        (zip_turn part parts c.loop-arc.yielded s c.loop-arc.arc-iterator c.next.new.self c.next.result ks vs c.loop-arc.yielded_by (c.in-Some.arc, c.in-Some.x) c.in-Some.is c.next.ensures.steps) in
+    (zip_turn part parts c.loop-arc.yielded s c.loop-arc.arc-iterator c.next.new.self c.next.result ks vs c.loop-arc.yielded_by (c.in-Some.arc, c.in-Some.x) c.in-Some.is c.next.ensures.steps) in
     let a = get_or net.first.now (c.args.j - 1) 0 + n in
     elim (cases_eq i (suc a)) [
       | inl e ↦ subst (λ z. 1 ≤ rank_of c.args.ranks.now (arc_at net.arcs.now z).start) (sym e) (elim c.else-ranks-arc-eq0.branch [
@@ -119,6 +119,6 @@ returns g c = λ a low high t e.
     let ks : iter_rest (zip_first s) ≡ part = ap (λ z. iter_rest (zip_first z)) c.into_iter-arc-iterator.ensures.into_iter_gives ∙ ap iter_rest c.zip-arc-items.ensures.first ∙ c.iter.ensures.rest in
     let vs : iter_rest (zip_second s) ≡ parts = ap (λ z. iter_rest (zip_second z)) c.into_iter-arc-iterator.ensures.into_iter_gives ∙ c.zip-arc-items.ensures.second.0 in
     let size = block_size g.M.Measure.algebra net.nodes net.arcs.now net.lengths.now net.first.now net.known c.args.j c.requires.low c.requires.high part parts c.into_node.ensures.arcs c.into_node.ensures.lengths _
-        (zip_end part parts c.loop-arc.yielded s c.loop-arc.arc-iterator c.next.new.self c.next.result ks vs c.loop-arc.yielded_by c.in-None.is c.next.ensures.steps) in
+    (zip_end part parts c.loop-arc.yielded s c.loop-arc.arc-iterator c.next.new.self c.next.result ks vs c.loop-arc.yielded_by c.in-None.is c.next.ensures.steps) in
     let b = in_block (net_of g.M.Measure.algebra net) net.first.now net.known.indexed c.args.j a c.requires.low c.requires.high low high e in
     c.loop-arc.invariant a b.0 (omega (arith, b.1)) t

@@ -25,7 +25,7 @@ overflow_sub-from g c =
     let ks : iter_rest (zip_first s) ≡ part = ap (λ z. iter_rest (zip_first z)) c.into_iter-arc-iterator.ensures.into_iter_gives ∙ ap iter_rest c.zip-arc-items.ensures.first ∙ c.iter.ensures.rest in
     let vs : iter_rest (zip_second s) ≡ parts = ap (λ z. iter_rest (zip_second z)) c.into_iter-arc-iterator.ensures.into_iter_gives ∙ c.zip-arc-items.ensures.second.0 in
     let b = block_item m net.nodes net.arcs.now net.lengths.now net.first.now net.known p.j c.requires.low c.requires.high part parts c.into_node.ensures.arcs c.into_node.ensures.lengths n c.in-Some.arc.now c.in-Some.x.now
-        (zip_turn part parts c.loop-arc.yielded s c.loop-arc.arc-iterator c.next.new.self c.next.result ks vs c.loop-arc.yielded_by (c.in-Some.arc, c.in-Some.x) c.in-Some.is c.next.ensures.steps) in
+    (zip_turn part parts c.loop-arc.yielded s c.loop-arc.arc-iterator c.next.new.self c.next.result ks vs c.loop-arc.yielded_by (c.in-Some.arc, c.in-Some.x) c.in-Some.is c.next.ensures.steps) in
     let a = get_or net.first.now (p.j - 1) 0 + n in
     omega (arith, b.block.low, ap (λ z. z.start) b.arc_is)
 
@@ -41,7 +41,7 @@ bounds-counts-from g c =
     let ks : iter_rest (zip_first s) ≡ part = ap (λ z. iter_rest (zip_first z)) c.into_iter-arc-iterator.ensures.into_iter_gives ∙ ap iter_rest c.zip-arc-items.ensures.first ∙ c.iter.ensures.rest in
     let vs : iter_rest (zip_second s) ≡ parts = ap (λ z. iter_rest (zip_second z)) c.into_iter-arc-iterator.ensures.into_iter_gives ∙ c.zip-arc-items.ensures.second.0 in
     let b = block_item m net.nodes net.arcs.now net.lengths.now net.first.now net.known p.j c.requires.low c.requires.high part parts c.into_node.ensures.arcs c.into_node.ensures.lengths n c.in-Some.arc.now c.in-Some.x.now
-        (zip_turn part parts c.loop-arc.yielded s c.loop-arc.arc-iterator c.next.new.self c.next.result ks vs c.loop-arc.yielded_by (c.in-Some.arc, c.in-Some.x) c.in-Some.is c.next.ensures.steps) in
+    (zip_turn part parts c.loop-arc.yielded s c.loop-arc.arc-iterator c.next.new.self c.next.result ks vs c.loop-arc.yielded_by (c.in-Some.arc, c.in-Some.x) c.in-Some.is c.next.ensures.steps) in
     let a = get_or net.first.now (p.j - 1) 0 + n in
     omega (arith, b.block.low, b.block.high, ap (λ z. z.start) b.arc_is, c.requires.shape.nodes)
 
@@ -57,7 +57,7 @@ work_arc-requires g c =
     let ks : iter_rest (zip_first s) ≡ part = ap (λ z. iter_rest (zip_first z)) c.into_iter-arc-iterator.ensures.into_iter_gives ∙ ap iter_rest c.zip-arc-items.ensures.first ∙ c.iter.ensures.rest in
     let vs : iter_rest (zip_second s) ≡ parts = ap (λ z. iter_rest (zip_second z)) c.into_iter-arc-iterator.ensures.into_iter_gives ∙ c.zip-arc-items.ensures.second.0 in
     let b = block_item m net.nodes net.arcs.now net.lengths.now net.first.now net.known p.j c.requires.low c.requires.high part parts c.into_node.ensures.arcs c.into_node.ensures.lengths n c.in-Some.arc.now c.in-Some.x.now
-        (zip_turn part parts c.loop-arc.yielded s c.loop-arc.arc-iterator c.next.new.self c.next.result ks vs c.loop-arc.yielded_by (c.in-Some.arc, c.in-Some.x) c.in-Some.is c.next.ensures.steps) in
+    (zip_turn part parts c.loop-arc.yielded s c.loop-arc.arc-iterator c.next.new.self c.next.result ks vs c.loop-arc.yielded_by (c.in-Some.arc, c.in-Some.x) c.in-Some.is c.next.ensures.steps) in
     let a = get_or net.first.now (p.j - 1) 0 + n in
     let e = ap (λ z. z.start) b.arc_is in
     two_rows net.nodes p.k (length p.values.now) _ c.in-Some.arc.now.start p.j _ p.counts.now c.requires.shape c.loop-arc.auto.values (omega (arith, e, b.block.low)) (omega (arith, e, b.block.high)) c.requires.low c.requires.high
@@ -75,7 +75,7 @@ loop-arc-preserved-then-taken g c =
     let ks : iter_rest (zip_first s) ≡ part = ap (λ z. iter_rest (zip_first z)) c.into_iter-arc-iterator.ensures.into_iter_gives ∙ ap iter_rest c.zip-arc-items.ensures.first ∙ c.iter.ensures.rest in
     let vs : iter_rest (zip_second s) ≡ parts = ap (λ z. iter_rest (zip_second z)) c.into_iter-arc-iterator.ensures.into_iter_gives ∙ c.zip-arc-items.ensures.second.0 in
     let b = block_item m net.nodes net.arcs.now net.lengths.now net.first.now net.known p.j c.requires.low c.requires.high part parts c.into_node.ensures.arcs c.into_node.ensures.lengths n c.in-Some.arc.now c.in-Some.x.now
-        (zip_turn part parts c.loop-arc.yielded s c.loop-arc.arc-iterator c.next.new.self c.next.result ks vs c.loop-arc.yielded_by (c.in-Some.arc, c.in-Some.x) c.in-Some.is c.next.ensures.steps) in
+    (zip_turn part parts c.loop-arc.yielded s c.loop-arc.arc-iterator c.next.new.self c.next.result ks vs c.loop-arc.yielded_by (c.in-Some.arc, c.in-Some.x) c.in-Some.is c.next.ensures.steps) in
     let a = get_or net.first.now (p.j - 1) 0 + n in
     let way = uses_taken (net_of m net) p.down p.j (suc a) b.block.into ∙ ap (λ z. z.«open» && takes p.down z.start p.j) (sym b.arc_is) ∙ sym c.taken.ensures ∙ c.if-taken.true in
     node_more m (net_of m net) p.k p.down p.j p.values.now p.counts.now a _ c.in-Some.arc.now.start c.loop-arc.row.held c.work_arc.new.row.held c.loop-arc.row.changed c.work_arc.new.row.changed c.loop-arc.values c.work_arc.new.values c.in-Some.x.now
@@ -93,7 +93,7 @@ loop-arc-preserved g c =
     let ks : iter_rest (zip_first s) ≡ part = ap (λ z. iter_rest (zip_first z)) c.into_iter-arc-iterator.ensures.into_iter_gives ∙ ap iter_rest c.zip-arc-items.ensures.first ∙ c.iter.ensures.rest in
     let vs : iter_rest (zip_second s) ≡ parts = ap (λ z. iter_rest (zip_second z)) c.into_iter-arc-iterator.ensures.into_iter_gives ∙ c.zip-arc-items.ensures.second.0 in
     let b = block_item m net.nodes net.arcs.now net.lengths.now net.first.now net.known p.j c.requires.low c.requires.high part parts c.into_node.ensures.arcs c.into_node.ensures.lengths n c.in-Some.arc.now c.in-Some.x.now
-        (zip_turn part parts c.loop-arc.yielded s c.loop-arc.arc-iterator c.next.new.self c.next.result ks vs c.loop-arc.yielded_by (c.in-Some.arc, c.in-Some.x) c.in-Some.is c.next.ensures.steps) in
+    (zip_turn part parts c.loop-arc.yielded s c.loop-arc.arc-iterator c.next.new.self c.next.result ks vs c.loop-arc.yielded_by (c.in-Some.arc, c.in-Some.x) c.in-Some.is c.next.ensures.steps) in
     let a = get_or net.first.now (p.j - 1) 0 + n in
     let way = uses_taken (net_of m net) p.down p.j (suc a) b.block.into ∙ ap (λ z. z.«open» && takes p.down z.start p.j) (sym b.arc_is) ∙ sym c.taken.ensures ∙ c.if-taken.false in
     node_skip m (net_of m net) p.k p.down p.j p.values.now p.counts.now a _ c.loop-arc.row.held c.loop-arc.row.changed c.loop-arc.values (omega (arith, length_push c.loop-arc.yielded (c.in-Some.arc, c.in-Some.x))) c.loop-arc.invariant way
@@ -108,7 +108,7 @@ returns g c =
     let ks : iter_rest (zip_first s) ≡ part = ap (λ z. iter_rest (zip_first z)) c.into_iter-arc-iterator.ensures.into_iter_gives ∙ ap iter_rest c.zip-arc-items.ensures.first ∙ c.iter.ensures.rest in
     let vs : iter_rest (zip_second s) ≡ parts = ap (λ z. iter_rest (zip_second z)) c.into_iter-arc-iterator.ensures.into_iter_gives ∙ c.zip-arc-items.ensures.second.0 in
     let size = block_size g.M.Measure.algebra net.nodes net.arcs.now net.lengths.now net.first.now net.known p.j c.requires.low c.requires.high part parts c.into_node.ensures.arcs c.into_node.ensures.lengths _
-        (zip_end part parts c.loop-arc.yielded s c.loop-arc.arc-iterator c.next.new.self c.next.result ks vs c.loop-arc.yielded_by c.in-None.is c.next.ensures.steps) in
+    (zip_end part parts c.loop-arc.yielded s c.loop-arc.arc-iterator c.next.new.self c.next.result ks vs c.loop-arc.yielded_by c.in-None.is c.next.ensures.steps) in
     record {
       count = c.loop-arc.row.held;
       is = node_all g.M.Measure.algebra (net_of g.M.Measure.algebra net) p.k p.down p.j p.values.now p.counts.now net.first.now net.known.indexed c.requires.low c.requires.high
