@@ -42,8 +42,8 @@ impl Filling {
             return;
         }
         let mut carry = x;
-        for i in at..self.held {
-            carry = mem::replace(&mut row[i], carry);
+        for cell in &mut row[at..self.held] {
+            carry = mem::replace(cell, carry);
         }
         if self.held < row.len() {
             row[self.held] = carry;

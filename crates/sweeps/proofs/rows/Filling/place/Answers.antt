@@ -20,8 +20,8 @@ loop-at-preserved g c = record { low = omega arith; past = λ up. past_more _ _ 
 pub returns-then-is_eq : goal.returns-then-is_eq
 returns-then-is_eq g c = placed_same _ _ _ _ _ c.requires _ _ c.loop-at.invariant c.if-at-self.true (tells_same _ (c.if-is_eq.ensures ∙ ap is_eq c.compare-then-at-self.ensures))
 
-pub loop-i-init : goal.loop-i-init
-loop-i-init g c = (
+pub loop-cell-init : goal.loop-cell-init
+loop-cell-init g c = (
   c.loop-at.invariant.low,
   (λ up. lands g.M.Measure.algebra c.args.row.now c.args.self.now.held c.args.self.now.changed c.args.x c.requires c.loop-at.at (c.loop-at.invariant.past up) (λ lt. elim c.loop-at-test.branch [
     | then-loop-at-test+else-is_gt w ↦ elim c.else-at-self.branch [
@@ -30,15 +30,19 @@ loop-i-init g c = (
     ]
     | else-loop-at-test w ↦ absurd (omega (arith, w.loop-at-test.false))
   ])),
-  shifts_none g.M.Measure.algebra c.args.row.now c.args.self.now.held c.args.self.now.changed c.args.x c.requires c.loop-at.at c.loop-at.invariant.low,
+  shifts_none _ _,
 )
 
-pub loop-i-preserved : goal.loop-i-preserved
-loop-i-preserved g c =
-    let read = c.replace-carry.ensures.value in (c.loop-i.invariant.0, c.loop-i.invariant.1, simp c.replace-carry.ensures.after (shifts_more _ _ _ c.args.self.now.changed _ c.requires _ _ _ _ _ c.loop-i.auto.i c.loop-i-test.true (read ∙ ap (get_or c.loop-i.row c.loop-i.i) (c.index-row-i.is ∙ sym read)) c.loop-i.invariant.2))
+pub loop-cell-preserved : goal.loop-cell-preserved
+loop-cell-preserved g c =
+    let read = c.replace-carry.ensures.value in (
+      c.loop-cell.invariant.0,
+      c.loop-cell.invariant.1,
+      simp c.replace-carry.ensures.after (shifts_more _ _ _ _ _ _ c.loop-cell-test.true (read ∙ ap (get_or c.loop-cell.cell-items c.loop-cell.cell-index) (c.cell-item.is ∙ sym read)) c.loop-cell.invariant.2),
+    )
 
 pub returns-then-self-row : goal.returns-then-self-row
-returns-then-self-row g c = placed_room _ _ _ _ _ c.requires _ _ _ _ (omega (arith, c.loop-i.invariant.0)) c.loop-i.invariant.0 c.loop-i.invariant.1 c.loop-i.invariant.2 c.if-self-row.true
+returns-then-self-row g c = placed_room _ _ _ _ _ c.requires _ _ _ _ c.loop-cell.invariant.0 c.loop-cell.invariant.1 c.loop-cell.invariant.2 c.loop-cell-test.false c.if-self-row.true
 
 pub returns-else-self-row : goal.returns-else-self-row
-returns-else-self-row g c = placed_full _ _ _ _ _ c.requires _ _ _ _ (omega (arith, c.loop-i.invariant.0)) c.loop-i.invariant.0 c.loop-i.invariant.1 c.loop-i.invariant.2 c.if-self-row.false
+returns-else-self-row g c = placed_full _ _ _ _ _ c.requires _ _ _ _ c.loop-cell.invariant.0 c.loop-cell.invariant.1 c.loop-cell.invariant.2 c.loop-cell-test.false c.if-self-row.false
