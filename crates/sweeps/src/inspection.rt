@@ -42,11 +42,7 @@ pub fn index<M: Measure>(nodes: usize, arcs: &[Arc], lengths: &[M], first: &mut 
     ensures { Indexed (network M.Measure.algebra nodes arcs.now lengths.now) first.new }
 {
     let total = arcs.len().min(lengths.len());
-    let mut below = 0;
-    for j in 0..nodes + 1 {
-        while below < total && arcs[below].end as usize <= j {
-            below += 1;
-        }
-        first[j] = below;
+    for j in 0..=nodes {
+        first[j] = arcs[..total].partition_point(|arc| arc.end as usize <= j);
     }
 }
