@@ -1,9 +1,7 @@
 use Rattle.std.proofs.Common.{◌≡◌, suc, length, refl, ap, ◌∙◌, arith}
-use Rattle.std.specs.Slice.Iter.{iter_rest}
-use Rattle.std.specs.Iterator.Adapters.{zip_first, zip_second}
 use Rattle.std.proofs.lemmas.List.{length_push}
-use Rattle.std.proofs.lemmas.Slice.Zip.{zip_turn, zip_end}
 use Rattle.sweeps.specs.Tables.{network, no_arc}
+use Rattle.sweeps.proofs.Sides.{sides_turn, sides_end}
 use Rattle.sweeps.proofs.Checking.{checked_none, checked_more, checked_all, checked_falls, fits_proper, proper_fits}
 use Rattle.sweeps.proofs.inspection.in_order.Goals.{then-not-fits-via-then-not-fits, then-not-fits-via-else-not-fits+then-arc-last}
 use Rattle.sweeps.proofs.inspection.in_order.Goals as goal
@@ -17,10 +15,7 @@ returns-then-not-fits g c = λ order.
     let arcs = c.args.arcs.now in
     let lengths = c.args.lengths.now in
     let n = length c.loop-arc.yielded in
-    let s = c.into_iter-arc-iterator.result in
-    let ks : iter_rest (zip_first s) ≡ arcs = ap (λ z. iter_rest (zip_first z)) c.into_iter-arc-iterator.ensures.into_iter_gives ∙ ap iter_rest c.zip-arc-items.ensures.first ∙ c.iter.ensures.rest in
-    let vs : iter_rest (zip_second s) ≡ lengths = ap (λ z. iter_rest (zip_second z)) c.into_iter-arc-iterator.ensures.into_iter_gives ∙ c.zip-arc-items.ensures.second.0 in
-    let turn = zip_turn arcs lengths c.loop-arc.yielded s c.loop-arc.arc-iterator c.next.new.self c.next.result ks vs c.loop-arc.yielded_by (c.in-Some.arc, c.in-Some.x) c.in-Some.is c.next.ensures.steps in
+    let turn = sides_turn c.into_iter-arc-iterator.ensures.into_iter_gives c.zip-arc-items.ensures.first c.iter.ensures.rest c.zip-arc-items.ensures.second.0 c.loop-arc.yielded c.loop-arc.arc-iterator c.next.new.self c.loop-arc.yielded_by (c.in-Some.arc, c.in-Some.x) c.in-Some.is c.next.ensures.steps in
     let arc_is = turn.2 no_arc in
     let x_is = turn.3 m.null in
     elim c.then-not-fits.branch [
@@ -35,10 +30,7 @@ loop-arc-preserved g c =
     let arcs = c.args.arcs.now in
     let lengths = c.args.lengths.now in
     let n = length c.loop-arc.yielded in
-    let s = c.into_iter-arc-iterator.result in
-    let ks : iter_rest (zip_first s) ≡ arcs = ap (λ z. iter_rest (zip_first z)) c.into_iter-arc-iterator.ensures.into_iter_gives ∙ ap iter_rest c.zip-arc-items.ensures.first ∙ c.iter.ensures.rest in
-    let vs : iter_rest (zip_second s) ≡ lengths = ap (λ z. iter_rest (zip_second z)) c.into_iter-arc-iterator.ensures.into_iter_gives ∙ c.zip-arc-items.ensures.second.0 in
-    let turn = zip_turn arcs lengths c.loop-arc.yielded s c.loop-arc.arc-iterator c.next.new.self c.next.result ks vs c.loop-arc.yielded_by (c.in-Some.arc, c.in-Some.x) c.in-Some.is c.next.ensures.steps in
+    let turn = sides_turn c.into_iter-arc-iterator.ensures.into_iter_gives c.zip-arc-items.ensures.first c.iter.ensures.rest c.zip-arc-items.ensures.second.0 c.loop-arc.yielded c.loop-arc.arc-iterator c.next.new.self c.loop-arc.yielded_by (c.in-Some.arc, c.in-Some.x) c.in-Some.is c.next.ensures.steps in
     let arc_is = turn.2 no_arc in
     let x_is = turn.3 m.null in
     checked_more m (network m c.args.nodes arcs lengths) n c.loop-arc.last _ _ c.loop-arc.invariant (length_push c.loop-arc.yielded (c.in-Some.arc, c.in-Some.x)) (ap (λ z. z.end) arc_is)
@@ -46,7 +38,4 @@ loop-arc-preserved g c =
 
 pub returns : goal.returns
 returns g c =
-    let s = c.into_iter-arc-iterator.result in
-    let ks : iter_rest (zip_first s) ≡ c.args.arcs.now = ap (λ z. iter_rest (zip_first z)) c.into_iter-arc-iterator.ensures.into_iter_gives ∙ ap iter_rest c.zip-arc-items.ensures.first ∙ c.iter.ensures.rest in
-    let vs : iter_rest (zip_second s) ≡ c.args.lengths.now = ap (λ z. iter_rest (zip_second z)) c.into_iter-arc-iterator.ensures.into_iter_gives ∙ c.zip-arc-items.ensures.second.0 in
-    checked_all _ _ _ _ (zip_end c.args.arcs.now c.args.lengths.now c.loop-arc.yielded s c.loop-arc.arc-iterator c.next.new.self c.next.result ks vs c.loop-arc.yielded_by c.in-None.is c.next.ensures.steps) c.loop-arc.invariant
+    checked_all _ _ _ _ (sides_end c.into_iter-arc-iterator.ensures.into_iter_gives c.zip-arc-items.ensures.first c.iter.ensures.rest c.zip-arc-items.ensures.second.0 c.loop-arc.yielded c.loop-arc.arc-iterator c.next.new.self c.loop-arc.yielded_by c.in-None.is c.next.ensures.steps) c.loop-arc.invariant

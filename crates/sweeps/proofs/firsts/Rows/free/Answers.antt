@@ -1,14 +1,12 @@
 use Rattle.std.proofs.Common.{◌≡◌, suc, ◌+◌, ◌-◌, ◌≤◌, true, length, get_or, sym, ap, ◌∙◌, subst, inl, inr, arith}
 use Rattle.std.proofs.lemmas.Bool.{both_ways, cases_eq}
 use Rattle.std.proofs.lemmas.List.{length_push}
-use Rattle.std.proofs.lemmas.Slice.Zip.{zip_turn, zip_end}
-use Rattle.std.specs.Iterator.Adapters.{zip_first, zip_second}
 use Rattle.std.specs.Ordering.{is_eq}
-use Rattle.std.specs.Slice.Iter.{iter_rest}
 use Rattle.sweeps.specs.Tables.{arc_at}
 use Rattle.sweeps.specs.Inwards.{net_of}
 use Rattle.sweeps.specs.Firsts.{told}
 use Rattle.sweeps.specs.Ranks.{tight_at, rank_of}
+use Rattle.sweeps.proofs.Sides.{sides_turn, sides_end}
 use Rattle.sweeps.proofs.Checking.{proper_fits, over_read}
 use Rattle.sweeps.proofs.Noding.{block_item, block_size, in_block}
 use Rattle.sweeps.proofs.firsts.Rows.free.Goals as goal
@@ -19,14 +17,9 @@ overflow_sub-arc g c =
     let m = g.M.Measure.algebra in
     let rows = c.args.self.now in
     let net = rows.net.now in
-    let part = c.into_node.result.0.now in
-    let parts = c.into_node.result.1.now in
     let n = length c.loop-arc.yielded in
-    let s = c.into_iter-arc-iterator.result in
-    let ks : iter_rest (zip_first s) ≡ part = ap (λ z. iter_rest (zip_first z)) c.into_iter-arc-iterator.ensures.into_iter_gives ∙ ap iter_rest c.zip-arc-items.ensures.first ∙ c.iter.ensures.rest in
-    let vs : iter_rest (zip_second s) ≡ parts = ap (λ z. iter_rest (zip_second z)) c.into_iter-arc-iterator.ensures.into_iter_gives ∙ c.zip-arc-items.ensures.second.0 in
-    let b = block_item m net.nodes net.arcs.now net.lengths.now net.first.now net.known c.args.j c.requires.low c.requires.high part parts c.into_node.ensures.arcs c.into_node.ensures.lengths n c.in-Some.arc.now c.in-Some.x.now
-    (zip_turn part parts c.loop-arc.yielded s c.loop-arc.arc-iterator c.next.new.self c.next.result ks vs c.loop-arc.yielded_by (c.in-Some.arc, c.in-Some.x) c.in-Some.is c.next.ensures.steps) in
+    let b = block_item m net.nodes net.arcs.now net.lengths.now net.first.now net.known c.args.j c.requires.low c.requires.high _ _ c.into_node.ensures.arcs c.into_node.ensures.lengths _ _ _
+    (sides_turn c.into_iter-arc-iterator.ensures.into_iter_gives c.zip-arc-items.ensures.first c.iter.ensures.rest c.zip-arc-items.ensures.second.0 c.loop-arc.yielded c.loop-arc.arc-iterator c.next.new.self c.loop-arc.yielded_by (c.in-Some.arc, c.in-Some.x) c.in-Some.is c.next.ensures.steps) in
     let a = get_or net.first.now (c.args.j - 1) 0 + n in
     omega (arith, b.block.low, ap (λ z. z.start) b.arc_is)
 
@@ -35,14 +28,9 @@ bounds-ranks-arc g c =
     let m = g.M.Measure.algebra in
     let rows = c.args.self.now in
     let net = rows.net.now in
-    let part = c.into_node.result.0.now in
-    let parts = c.into_node.result.1.now in
     let n = length c.loop-arc.yielded in
-    let s = c.into_iter-arc-iterator.result in
-    let ks : iter_rest (zip_first s) ≡ part = ap (λ z. iter_rest (zip_first z)) c.into_iter-arc-iterator.ensures.into_iter_gives ∙ ap iter_rest c.zip-arc-items.ensures.first ∙ c.iter.ensures.rest in
-    let vs : iter_rest (zip_second s) ≡ parts = ap (λ z. iter_rest (zip_second z)) c.into_iter-arc-iterator.ensures.into_iter_gives ∙ c.zip-arc-items.ensures.second.0 in
-    let b = block_item m net.nodes net.arcs.now net.lengths.now net.first.now net.known c.args.j c.requires.low c.requires.high part parts c.into_node.ensures.arcs c.into_node.ensures.lengths n c.in-Some.arc.now c.in-Some.x.now
-    (zip_turn part parts c.loop-arc.yielded s c.loop-arc.arc-iterator c.next.new.self c.next.result ks vs c.loop-arc.yielded_by (c.in-Some.arc, c.in-Some.x) c.in-Some.is c.next.ensures.steps) in
+    let b = block_item m net.nodes net.arcs.now net.lengths.now net.first.now net.known c.args.j c.requires.low c.requires.high _ _ c.into_node.ensures.arcs c.into_node.ensures.lengths _ _ _
+    (sides_turn c.into_iter-arc-iterator.ensures.into_iter_gives c.zip-arc-items.ensures.first c.iter.ensures.rest c.zip-arc-items.ensures.second.0 c.loop-arc.yielded c.loop-arc.arc-iterator c.next.new.self c.loop-arc.yielded_by (c.in-Some.arc, c.in-Some.x) c.in-Some.is c.next.ensures.steps) in
     let a = get_or net.first.now (c.args.j - 1) 0 + n in
     omega (arith, b.block.low, b.block.high, ap (λ z. z.start) b.arc_is, c.requires.room)
 
@@ -51,14 +39,9 @@ tight-requires g c =
     let m = g.M.Measure.algebra in
     let rows = c.args.self.now in
     let net = rows.net.now in
-    let part = c.into_node.result.0.now in
-    let parts = c.into_node.result.1.now in
     let n = length c.loop-arc.yielded in
-    let s = c.into_iter-arc-iterator.result in
-    let ks : iter_rest (zip_first s) ≡ part = ap (λ z. iter_rest (zip_first z)) c.into_iter-arc-iterator.ensures.into_iter_gives ∙ ap iter_rest c.zip-arc-items.ensures.first ∙ c.iter.ensures.rest in
-    let vs : iter_rest (zip_second s) ≡ parts = ap (λ z. iter_rest (zip_second z)) c.into_iter-arc-iterator.ensures.into_iter_gives ∙ c.zip-arc-items.ensures.second.0 in
-    let b = block_item m net.nodes net.arcs.now net.lengths.now net.first.now net.known c.args.j c.requires.low c.requires.high part parts c.into_node.ensures.arcs c.into_node.ensures.lengths n c.in-Some.arc.now c.in-Some.x.now
-    (zip_turn part parts c.loop-arc.yielded s c.loop-arc.arc-iterator c.next.new.self c.next.result ks vs c.loop-arc.yielded_by (c.in-Some.arc, c.in-Some.x) c.in-Some.is c.next.ensures.steps) in
+    let b = block_item m net.nodes net.arcs.now net.lengths.now net.first.now net.known c.args.j c.requires.low c.requires.high _ _ c.into_node.ensures.arcs c.into_node.ensures.lengths _ _ _
+    (sides_turn c.into_iter-arc-iterator.ensures.into_iter_gives c.zip-arc-items.ensures.first c.iter.ensures.rest c.zip-arc-items.ensures.second.0 c.loop-arc.yielded c.loop-arc.arc-iterator c.next.new.self c.loop-arc.yielded_by (c.in-Some.arc, c.in-Some.x) c.in-Some.is c.next.ensures.steps) in
     let a = get_or net.first.now (c.args.j - 1) 0 + n in
     proper_fits m net.nodes net.arcs.now net.lengths.now a _ _ b.arc_is b.x_is (net.known.ordered.proper (suc a) (omega arith) (omega (arith, b.block.inside)))
 
@@ -67,14 +50,9 @@ returns-then-tight g c =
     let m = g.M.Measure.algebra in
     let rows = c.args.self.now in
     let net = rows.net.now in
-    let part = c.into_node.result.0.now in
-    let parts = c.into_node.result.1.now in
     let n = length c.loop-arc.yielded in
-    let s = c.into_iter-arc-iterator.result in
-    let ks : iter_rest (zip_first s) ≡ part = ap (λ z. iter_rest (zip_first z)) c.into_iter-arc-iterator.ensures.into_iter_gives ∙ ap iter_rest c.zip-arc-items.ensures.first ∙ c.iter.ensures.rest in
-    let vs : iter_rest (zip_second s) ≡ parts = ap (λ z. iter_rest (zip_second z)) c.into_iter-arc-iterator.ensures.into_iter_gives ∙ c.zip-arc-items.ensures.second.0 in
-    let b = block_item m net.nodes net.arcs.now net.lengths.now net.first.now net.known c.args.j c.requires.low c.requires.high part parts c.into_node.ensures.arcs c.into_node.ensures.lengths n c.in-Some.arc.now c.in-Some.x.now
-    (zip_turn part parts c.loop-arc.yielded s c.loop-arc.arc-iterator c.next.new.self c.next.result ks vs c.loop-arc.yielded_by (c.in-Some.arc, c.in-Some.x) c.in-Some.is c.next.ensures.steps) in
+    let b = block_item m net.nodes net.arcs.now net.lengths.now net.first.now net.known c.args.j c.requires.low c.requires.high _ _ c.into_node.ensures.arcs c.into_node.ensures.lengths _ _ _
+    (sides_turn c.into_iter-arc-iterator.ensures.into_iter_gives c.zip-arc-items.ensures.first c.iter.ensures.rest c.zip-arc-items.ensures.second.0 c.loop-arc.yielded c.loop-arc.arc-iterator c.next.new.self c.loop-arc.yielded_by (c.in-Some.arc, c.in-Some.x) c.in-Some.is c.next.ensures.steps) in
     let a = get_or net.first.now (c.args.j - 1) 0 + n in
     record {
       arc = suc a;
@@ -90,14 +68,9 @@ loop-arc-preserved g c = λ i low high t.
     let m = g.M.Measure.algebra in
     let rows = c.args.self.now in
     let net = rows.net.now in
-    let part = c.into_node.result.0.now in
-    let parts = c.into_node.result.1.now in
     let n = length c.loop-arc.yielded in
-    let s = c.into_iter-arc-iterator.result in
-    let ks : iter_rest (zip_first s) ≡ part = ap (λ z. iter_rest (zip_first z)) c.into_iter-arc-iterator.ensures.into_iter_gives ∙ ap iter_rest c.zip-arc-items.ensures.first ∙ c.iter.ensures.rest in
-    let vs : iter_rest (zip_second s) ≡ parts = ap (λ z. iter_rest (zip_second z)) c.into_iter-arc-iterator.ensures.into_iter_gives ∙ c.zip-arc-items.ensures.second.0 in
-    let b = block_item m net.nodes net.arcs.now net.lengths.now net.first.now net.known c.args.j c.requires.low c.requires.high part parts c.into_node.ensures.arcs c.into_node.ensures.lengths n c.in-Some.arc.now c.in-Some.x.now
-    (zip_turn part parts c.loop-arc.yielded s c.loop-arc.arc-iterator c.next.new.self c.next.result ks vs c.loop-arc.yielded_by (c.in-Some.arc, c.in-Some.x) c.in-Some.is c.next.ensures.steps) in
+    let b = block_item m net.nodes net.arcs.now net.lengths.now net.first.now net.known c.args.j c.requires.low c.requires.high _ _ c.into_node.ensures.arcs c.into_node.ensures.lengths _ _ _
+    (sides_turn c.into_iter-arc-iterator.ensures.into_iter_gives c.zip-arc-items.ensures.first c.iter.ensures.rest c.zip-arc-items.ensures.second.0 c.loop-arc.yielded c.loop-arc.arc-iterator c.next.new.self c.loop-arc.yielded_by (c.in-Some.arc, c.in-Some.x) c.in-Some.is c.next.ensures.steps) in
     let a = get_or net.first.now (c.args.j - 1) 0 + n in
     elim (cases_eq i (suc a)) [
       | inl e ↦ subst (λ z. 1 ≤ rank_of c.args.ranks.now (arc_at net.arcs.now z).start) (sym e) (elim c.else-ranks-arc-eq0.branch [
@@ -113,12 +86,7 @@ loop-arc-preserved g c = λ i low high t.
 pub returns : goal.returns
 returns g c = λ a low high t e.
     let net = c.args.self.now.net.now in
-    let part = c.into_node.result.0.now in
-    let parts = c.into_node.result.1.now in
-    let s = c.into_iter-arc-iterator.result in
-    let ks : iter_rest (zip_first s) ≡ part = ap (λ z. iter_rest (zip_first z)) c.into_iter-arc-iterator.ensures.into_iter_gives ∙ ap iter_rest c.zip-arc-items.ensures.first ∙ c.iter.ensures.rest in
-    let vs : iter_rest (zip_second s) ≡ parts = ap (λ z. iter_rest (zip_second z)) c.into_iter-arc-iterator.ensures.into_iter_gives ∙ c.zip-arc-items.ensures.second.0 in
-    let size = block_size g.M.Measure.algebra net.nodes net.arcs.now net.lengths.now net.first.now net.known c.args.j c.requires.low c.requires.high part parts c.into_node.ensures.arcs c.into_node.ensures.lengths _
-    (zip_end part parts c.loop-arc.yielded s c.loop-arc.arc-iterator c.next.new.self c.next.result ks vs c.loop-arc.yielded_by c.in-None.is c.next.ensures.steps) in
+    let size = block_size g.M.Measure.algebra net.nodes net.arcs.now net.lengths.now net.first.now net.known c.args.j c.requires.low c.requires.high _ _ c.into_node.ensures.arcs c.into_node.ensures.lengths _
+    (sides_end c.into_iter-arc-iterator.ensures.into_iter_gives c.zip-arc-items.ensures.first c.iter.ensures.rest c.zip-arc-items.ensures.second.0 c.loop-arc.yielded c.loop-arc.arc-iterator c.next.new.self c.loop-arc.yielded_by c.in-None.is c.next.ensures.steps) in
     let b = in_block (net_of g.M.Measure.algebra net) net.first.now net.known.indexed c.args.j a c.requires.low c.requires.high low high e in
     c.loop-arc.invariant a b.0 (omega (arith, b.1)) t

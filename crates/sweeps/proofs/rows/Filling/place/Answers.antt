@@ -4,18 +4,12 @@ use Rattle.sweeps.proofs.Placing.{Seeks, first_low, first_past, past_more, next_
 use Rattle.sweeps.proofs.rows.Filling.place.Goals.{then-loop-at-test+else-is_gt, else-loop-at-test, else-at-self-via-then-at-self+else-is_eq, else-at-self-via-else-at-self}
 use Rattle.sweeps.proofs.rows.Filling.place.Goals as goal
 
-pub first_cell-at-requires : goal.first_cell-at-requires
-first_cell-at-requires g c = omega (arith, c.requires, c.args.self.now.within)
-
 pub loop-at-init : goal.loop-at-init
 loop-at-init g c =
     let m = g.M.Measure.algebra in
     let p = c.args in
     subst (Seeks m p.row.now p.self.now.held p.x) (sym c.first_cell-at.ensures)
     (record { low = first_low m p.row.now p.self.now.held p.self.now.changed p.x c.requires p.self.now.from c.args.self.now.within; past = first_past m p.row.now p.self.now.held p.self.now.changed p.x c.requires g.met.M.Measure.lawful p.self.now.from c.args.self.now.within })
-
-pub loop-at-preserved : goal.loop-at-preserved
-loop-at-preserved g c = record { low = omega arith; past = λ up. past_more _ _ _ c.args.self.now.changed _ c.requires _ _ (c.loop-at.invariant.past up) c.loop-at-test.true (tells_after _ (c.if-is_gt.ensures ∙ ap is_gt c.compare.ensures)) }
 
 pub returns-then-is_eq : goal.returns-then-is_eq
 returns-then-is_eq g c = placed_same _ _ _ _ _ c.requires _ _ c.loop-at.invariant c.if-at-self.true (tells_same _ (c.if-is_eq.ensures ∙ ap is_eq c.compare-then-at-self.ensures))
