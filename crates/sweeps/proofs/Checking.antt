@@ -1,5 +1,5 @@
 -- What looking at the arc tables keeps from arc to arc.
-use Rattle.std.proofs.Common.{zero, min, leb, true, false, take, length-take, ◌≡◌, ℕ, suc, ◌+◌, ◌^◌, ◌<◌, ◌≤◌, List, length, get_or, set, sym, ap, ◌∙◌, subst, inl, inr, add-one, arith}
+use Rattle.std.proofs.Common.{zero, min, leb, true, false, take, length-take, ◌≡◌, ℕ, suc, ◌+◌, ◌<◌, ◌≤◌, List, length, get_or, set, sym, ap, ◌∙◌, subst, inl, inr, add-one, arith}
 use Rattle.std.proofs.lemmas.List.{get_or-set_same, get_or-set_other, get_or-take, get_or_default}
 use Rattle.std.proofs.lemmas.Bool.{cases_eq, leb-true, leb-false, le-leb}
 use Rattle.std.specs.List.Sorted.{IsPartitionedBy, IsPartitionPoint}
@@ -16,9 +16,6 @@ module _ {V : Type 0} (m : Algebra V) (net : Network V) where
     pub proper : (b : ℕ) → 1 ≤ b → b ≤ a → ProperArc m net b
     pub sorted : (b c : ℕ) → 1 ≤ b → b ≤ c → c ≤ a → net.end b ≤ net.end c
     pub last_end : last ≡ net.end a
-
-  pub checked_none : net.end 0 ≡ 0 → Checked 0 0
-  checked_none e = record { proper = λ b low high. absurd (omega arith); sorted = λ b c low le high. absurd (omega arith); last_end = sym e }
 
   pub checked_more : (a last a' last' : ℕ) → Checked a last → a' ≡ a + 1 → last' ≡ net.end (suc a) → ProperArc m net (suc a) → last ≤ last' → Checked a' last'
   checked_more a last a' last' h next ends p le = subst (λ z. Checked z last') (sym (next ∙ add-one a)) (record {

@@ -110,14 +110,6 @@ module _ {V : Type 0} (m : Algebra V) (net : Network V) (k : ℕ) where
           (going_gone m net k t (b + net.nodes) (λ i. j ≤ i) v c changed d.table (subst (λ z. Going m net k t z (λ i. j ≤ i) v c changed d.table) (omega arith) d.going));
     }
 
-    pub turns_none : (down : Bool) → Shape net.nodes k (length v0) c0 → Turns down v0 c0 v0 c0 false 0
-    turns_none true shape = subst (Down v0 c0 v0 c0 false) (omega arith) (down_none shape)
-    turns_none false shape = up_none (0 + 1) refl shape
-
-    pub turns_shape : (down : Bool) (v : List V) (c : List ℕ) (changed : Bool) (i : ℕ) → Turns down v0 c0 v c changed i → Shape net.nodes k (length v) c
-    turns_shape true v c changed i h = h.shape
-    turns_shape false v c changed i h = h.shape
-
     pub turns_more : (down : Bool) (v v' : List V) (c c' : List ℕ) (moved changed : Bool) (i j : ℕ) → j ≡ cond down (net.nodes - i) (i + 1) → i < net.nodes → Turns down v0 c0 v c changed i → NodeWorked m net k down j v c v' c' moved
         → Turns down v0 c0 v' c' (changed || moved) (i + 1)
     turns_more true v v' c c' moved changed i j is lt h w =

@@ -1,10 +1,10 @@
 -- What placing a length keeps from cell to cell.
-use Rattle.std.proofs.Common.{◌≡◌, ℕ, zero, suc, ◌+◌, ◌-◌, ◌<◌, ◌≤◌, Bool, true, false, ◌&&◌, ◌||◌, ltb, List, [], ◌∷◌, ◌++◌, length, get_or, take, drop, set, Ordering, Less, Equal, Greater, sym, refl, ap, ◌∙◌, subst, inl, inr, append_assoc, arith, length-append, length-set, take-append-drop, length-take, length-drop}
+use Rattle.std.proofs.Common.{◌≡◌, ℕ, zero, suc, ◌+◌, ◌-◌, ◌<◌, ◌≤◌, Bool, true, false, ◌&&◌, ◌||◌, ltb, List, [], ◌∷◌, ◌++◌, length, get_or, take, drop, set, Ordering, Less, Equal, Greater, sym, refl, ap, ◌∙◌, inl, inr, append_assoc, arith, length-append, length-set, take-append-drop, length-take, length-drop}
 use borrow.Rule.Slice.PartMut.{put_mid}
 use Rattle.std.proofs.lemmas.Slice.{take-put_mid, drop-put_mid}
 use lib.Seq.{take-append-add}
 use Rattle.std.proofs.lemmas.List.{take_more, take_more_set, drop_more, get_or-take, drop-take, drop-set-lt, drop_all, take_all, take_at, take-take, get_or_default}
-use Rattle.std.proofs.lemmas.Bool.{lt-ltb, le-ltb, cases_eq, cases_lt, and_parts, cond_both, ltb-true, true≢false, false≢true}
+use Rattle.std.proofs.lemmas.Bool.{lt-ltb, le-ltb, cases_lt, and_parts, cond_both, ltb-true, true≢false, false≢true}
 use Rattle.std.specs.Ordering.{is_eq, is_gt, ordering_reverse}
 use Rattle.measure.specs.Algebra.{Algebra, Laws, Before}
 use Rattle.walks.specs.Rows.{BeforeAll, Ascending}
@@ -152,16 +152,6 @@ module _ {V : Type 0} (m : Algebra V) where
             let some = ltb-true 0 from b.0 in
             let after : m.compare x (get_or (take count row0) (from - 1) x) ≡ Greater = ap (m.compare x) (get_or-take count row0 (from - 1) x (omega arith)) ∙ tells_after (m.compare x (get_or row0 (from - 1) x)) (sym b.1) in
             record { low = le; all = λ p lt. ap (m.compare x) (sym (get_or-take count row0 p x (omega arith))) ∙ earlier laws x x (take count row0) (from - 1) up (omega (arith, long)) after p (omega arith) }
-
-    pub past_more : (i : ℕ) (d : V) → Past row0 count x i → i < count → m.compare x (get_or row0 i d) ≡ Greater → Past row0 count x (i + 1)
-    past_more i d h below greater =
-        record {
-          low = omega arith;
-          all = λ p lt. elim (cases_eq p i) [
-            | inl e ↦ ap (λ z. m.compare x z) (ap (λ n. get_or row0 n x) e ∙ get_or_default row0 i x d (omega arith)) ∙ greater
-            | inr ne ↦ h.all p (omega arith)
-          ];
-        }
 
     pub next_less : (i : ℕ) (d e : V) → i < count → false ≡ is_gt (m.compare x (get_or row0 i d)) → false ≡ is_eq (m.compare x (get_or row0 i e)) → m.compare x (get_or row0 i x) ≡ Less
     next_less i d e below after same =

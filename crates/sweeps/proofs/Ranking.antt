@@ -1,14 +1,12 @@
 -- What ranking the nodes keeps.
-use Rattle.std.proofs.Common.{◌≡◌, ℕ, zero, suc, ◌+◌, ◌-◌, ◌<◌, ◌≤◌, Bool, true, false, eqb, List, [], ◌∷◌, length, get_or, take, set, replicate, sym, refl, ap, ◌∙◌, subst, inl, inr, mul-le-mul_right, add-one, arith, length-set, length-take}
+use Rattle.std.proofs.Common.{◌≡◌, ℕ, zero, suc, ◌+◌, ◌-◌, ◌<◌, ◌≤◌, Bool, true, false, eqb, List, [], ◌∷◌, length, get_or, take, set, replicate, sym, refl, ap, ◌∙◌, subst, inl, inr, add-one, arith, length-set, length-take}
 use Rattle.std.proofs.lemmas.List.{get_or-set_same, get_or-set_other, get_or-take}
 use Rattle.std.specs.List.{IsAnyAnswer}
 use Rattle.std.proofs.lemmas.Bool.{cases_eq, eqb-true, eqb-false}
 use Rattle.measure.specs.Algebra.{Algebra}
 use Rattle.walks.specs.Networks.{Network}
-use Rattle.sweeps.specs.Tables.{start_of, count_of, InOrder}
-use Rattle.sweeps.specs.Nodes.{Shape}
-use Rattle.sweeps.specs.Ranks.{left, Blocked, Free, Climbs, Stuck, Scanned, Verdict}
-use Rattle.sweeps.proofs.Working.{row_end}
+use Rattle.sweeps.specs.Tables.{InOrder}
+use Rattle.sweeps.specs.Ranks.{left, Blocked, Free, Climbs, Stuck, Verdict}
 
 left_set : (rs : List ℕ) (i r : ℕ) → i < length rs → get_or rs i 0 ≡ 0 → left rs ≡ suc (left (set rs i (suc r)))
 left_set [] i r lt e = absurd (omega arith)
@@ -55,9 +53,6 @@ module _ {V : Type 0} (m : Algebra V) (net : Network V) (k : ℕ) (values : List
     pub grows : ranked ≤ total
     pub still : total ≡ ranked → Stuck m net k values counts ranks i
 
-  pub part_none : (ranked : ℕ) (ranks : List ℕ) → Climbs m net k values counts ranks ranked → Part ranked ranks ranked 0
-  part_none ranked ranks h = record { climbs = h; grows = omega arith; still = λ e i lt z. absurd (omega arith) }
-
   part_stuck : (ranked : ℕ) (ranks : List ℕ) (total i : ℕ) → Part ranked ranks total i → (get_or ranks i 0 ≡ 0 → Blocked m net k values counts ranks (i + 1)) → Part ranked ranks total (i + 1)
   part_stuck ranked ranks total i h here = record {
     climbs = h.climbs;
@@ -76,9 +71,6 @@ module _ {V : Type 0} (m : Algebra V) (net : Network V) (k : ℕ) (values : List
 
   pub part_free : InOrder m net → (ranked : ℕ) (ranks : List ℕ) (total i : ℕ) → i < length ranks → get_or ranks i 0 ≡ 0 → Part ranked ranks total i → Free m net k values counts ranks (i + 1) → Part ranked (set ranks i (total + 1)) (total + 1) (i + 1)
   part_free order ranked ranks total i lt none h f = record { climbs = climbs_more order ranks total i lt none h.climbs f; grows = omega (arith, h.grows); still = λ e. absurd (omega (arith, h.grows)) }
-
-  pub part_all : (ranked : ℕ) (ranks : List ℕ) (total i : ℕ) → i ≡ net.nodes → Part ranked ranks total i → Scanned m net k values counts ranked ranks total
-  part_all ranked ranks total i e h = record { climbs = h.climbs; grows = h.grows; still = λ z. subst (Stuck m net k values counts ranks) e (h.still z) }
 
   -- what looking for a node that is not ranked answers
   pub verdict_of : (ranks : List ℕ) → net.nodes ≤ length ranks → (r : Bool) → IsAnyAnswer (λ y b. eqb y 0 ≡ b) (take net.nodes ranks) r → Verdict m net k values counts ranks r

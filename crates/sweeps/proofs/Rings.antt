@@ -2,7 +2,7 @@
 -- lags after pass N means refusal.
 use Rattle.std.proofs.Common.{◌≡◌, ℕ, suc, ◌+◌, ◌-◌, ◌^◌, ◌<◌, ◌≤◌, Bool, true, false, cond, ltb, List, ◌∷◌, length, get_or, take, drop, Some, None, Ordering, Less, Equal, Greater, sym, refl, ap, ◌∙◌, subst, inl, mul-le-mul_right, arith, length-take}
 use Rattle.std.proofs.lemmas.List.{drop_more}
-use Rattle.std.proofs.lemmas.Bool.{and_parts, and_from, ltb-true, ltb-false, lt-ltb, le-ltb, le-leb, cond-true, false≢true}
+use Rattle.std.proofs.lemmas.Bool.{ltb-true, ltb-false, lt-ltb, le-ltb, le-leb, cond-true, false≢true}
 use Rattle.std.specs.Ordering.{is_eq, is_lt}
 use Rattle.measure.specs.Algebra.{Algebra, Laws, Joinable, joined}
 use Rattle.walks.specs.Networks.{Network, Open}

@@ -9,7 +9,7 @@ use Rattle.sweeps.specs.declared.Arc.{Arc}
 use Rattle.sweeps.specs.declared.Solved.{Solved}
 use Rattle.sweeps.specs.declared.refusal.Refusal.{Refusal}
 use Rattle.sweeps.specs.declared.refusal.Refusal.TheVariants.{NegativeCircuit}
-use Rattle.sweeps.specs.Tables.{network, InOrder, start_of, cells, count_of, RowsHeld, Cleared}
+use Rattle.sweeps.specs.Tables.{network, InOrder, start_of, cells, count_of, RowsHeld}
 use Rattle.sweeps.specs.Passes.{RowsFill, Filled}
 use Rattle.sweeps.specs.Answers.{solve_verdict, Answered, Meant, SolvedAs, Solves}
 use Rattle.sweeps.proofs.Working.{row_end}

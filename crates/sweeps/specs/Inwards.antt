@@ -1,5 +1,4 @@
 -- The network that is indexed.
-use Rattle.std.specs.Prelude.{ℕ}
 use Rattle.measure.specs.Algebra.{Algebra}
 use Rattle.walks.specs.Networks.{Network}
 use Rattle.sweeps.specs.declared.inward.Inward.{Inward}

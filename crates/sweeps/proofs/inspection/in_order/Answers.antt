@@ -1,13 +1,10 @@
-use Rattle.std.proofs.Common.{◌≡◌, suc, length, refl, ap, ◌∙◌, arith}
+use Rattle.std.proofs.Common.{suc, length, refl, ap, arith}
 use Rattle.std.proofs.lemmas.List.{length_push}
 use Rattle.sweeps.specs.Tables.{network, no_arc}
 use Rattle.sweeps.proofs.Sides.{sides_turn, sides_end}
-use Rattle.sweeps.proofs.Checking.{checked_none, checked_more, checked_all, checked_falls, fits_proper, proper_fits}
+use Rattle.sweeps.proofs.Checking.{checked_more, checked_all, checked_falls, fits_proper, proper_fits}
 use Rattle.sweeps.proofs.inspection.in_order.Goals.{then-not-fits-via-then-not-fits, then-not-fits-via-else-not-fits+then-arc-last}
 use Rattle.sweeps.proofs.inspection.in_order.Goals as goal
-
-pub loop-arc-init : goal.loop-arc-init
-loop-arc-init g c = checked_none _ _ refl
 
 pub returns-then-not-fits : goal.returns-then-not-fits
 returns-then-not-fits g c = λ order.

@@ -4,9 +4,6 @@ use Rattle.sweeps.specs.Tables.{network}
 use Rattle.sweeps.proofs.Checking.{parted, splits_of, indexing_more, indexing_all}
 use Rattle.sweeps.proofs.inspection.index.Goals as goal
 
-pub loop-j-init : goal.loop-j-init
-loop-j-init g c = λ i lt. absurd (omega arith)
-
 pub loop-j-preserved : goal.loop-j-preserved
 loop-j-preserved g c =
     let m = g.M.Measure.algebra in
@@ -15,9 +12,6 @@ loop-j-preserved g c =
     let point = IsPartitionPoint-from_clause (λ arc. leb arc.end j) _ _ c.partition_point.ensures.partitioned (parted m c.args.nodes c.args.arcs.now c.args.lengths.now c.min-total.result c.min-total.ensures j c.requires.ordered) (λ a r q k. search rules) in
     let split = splits_of m c.args.nodes c.args.arcs.now c.args.lengths.now c.min-total.result c.min-total.ensures j c.partition_point.result c.partition_point.ensures.bound point in
     indexing_more net _ _ _ c.loop-j.invariant (omega (arith, c.requires.room)) split
-
-pub returns : goal.returns
-returns g c = absurd (omega arith)
 
 pub returns-2 : goal.returns-2
 returns-2 g c =

@@ -1,15 +1,9 @@
 use Rattle.std.proofs.Common.{subst, arith}
 use Rattle.sweeps.specs.Inwards.{net_of}
 use Rattle.sweeps.specs.Ranks.{FreeOr}
-use Rattle.sweeps.proofs.Ranking.{part_none, part_held, part_shut, part_free, part_all}
+use Rattle.sweeps.proofs.Ranking.{part_held, part_shut, part_free}
 use Rattle.sweeps.proofs.firsts.Rows.scan.Goals as goal
 use Rattle.sweeps.proofs.firsts.Rows.scan.Goals.{then-ranks-i-eq0+then-free, else-ranks-i-eq0, else-ranks-i-eq0-via-then-ranks-i-eq0+else-free, else-ranks-i-eq0-via-else-ranks-i-eq0}
-
-pub loop-i-init : goal.loop-i-init
-loop-i-init g c = part_none _ _ _ _ _ _ _ c.requires.climbs
-
-pub overflow_add-total : goal.overflow_add-total
-overflow_add-total g c = omega (arith, c.loop-i.invariant.climbs.total)
 
 pub loop-i-preserved : goal.loop-i-preserved
 loop-i-preserved g c =
@@ -27,5 +21,3 @@ loop-i-preserved g c =
       ])
     ]
 
-pub returns : goal.returns
-returns g c = part_all _ _ _ _ _ _ _ _ _ (omega arith) c.loop-i.invariant

@@ -1,4 +1,3 @@
-use Rattle.std.proofs.Common.{◌≡◌, ◌≤◌, get_or, arith}
 use Rattle.sweeps.specs.Inwards.{net_of}
 use Rattle.sweeps.proofs.Noding.{block_ordered}
 use Rattle.sweeps.proofs.inward.Inward.into_node.Goals as goal

@@ -1,19 +1,9 @@
 use Rattle.std.proofs.Common.{◌≡◌, ◌+◌, ◌-◌, cond, sym, ap, ◌∙◌, arith}
 use Rattle.sweeps.specs.Inwards.{net_of}
 use Rattle.sweeps.proofs.Noding.{formed_of}
-use Rattle.sweeps.proofs.Looping.{turns_none, turns_shape, turns_more, turns_all}
+use Rattle.sweeps.proofs.Looping.{turns_more, turns_all}
 use Rattle.sweeps.proofs.inward.Inward.pass.Goals as goal
 use Rattle.sweeps.proofs.inward.Inward.pass.Goals.{then-down, else-down}
-
-pub loop-i-init : goal.loop-i-init
-loop-i-init g c = turns_none _ _ _ g.met.M.Measure.lawful (formed_of _ _ c.args.self.now.known.ordered) _ _ c.args.down c.requires
-
-pub work_node-changed-requires : goal.work_node-changed-requires
-work_node-changed-requires g c = record {
-  shape = turns_shape _ _ _ g.met.M.Measure.lawful (formed_of _ _ c.args.self.now.known.ordered) _ _ c.args.down _ _ _ _ c.loop-i.invariant;
-  low = elim c.if-down.branch [ then-down w ↦ omega (arith, w.j-is) | else-down w ↦ omega (arith, w.j-is) ];
-  high = elim c.if-down.branch [ then-down w ↦ omega (arith, w.j-is) | else-down w ↦ omega (arith, w.j-is) ];
-}
 
 pub loop-i-preserved : goal.loop-i-preserved
 loop-i-preserved g c =

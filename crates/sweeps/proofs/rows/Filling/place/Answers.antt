@@ -1,6 +1,6 @@
 use Rattle.std.proofs.Common.{get_or, sym, ap, ◌∙◌, subst, arith}
 use Rattle.std.specs.Ordering.{is_eq, is_gt}
-use Rattle.sweeps.proofs.Placing.{Seeks, first_low, first_past, past_more, next_less, placed_same, lands, shifts_none, shifts_more, placed_room, placed_full, tells_after, tells_same}
+use Rattle.sweeps.proofs.Placing.{Seeks, first_low, first_past, next_less, placed_same, lands, shifts_none, shifts_more, placed_room, placed_full, tells_same}
 use Rattle.sweeps.proofs.rows.Filling.place.Goals.{then-loop-at-test+else-is_gt, else-loop-at-test, else-at-self-via-then-at-self+else-is_eq, else-at-self-via-else-at-self}
 use Rattle.sweeps.proofs.rows.Filling.place.Goals as goal
 
