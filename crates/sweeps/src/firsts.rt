@@ -2,7 +2,7 @@
 ghost use Rattle.std.specs.Prelude.{◌≡◌, ◌≤◌, length};
 ghost use Rattle.std.specs.Ordering.{is_lt};
 ghost use Rattle.std.proofs.Props.{props};
-ghost use Rattle.sweeps.specs.Nodes.{FitsArc, Shape};
+ghost use Rattle.sweeps.specs.Nodes.{IsNode, FitsArc, Shape};
 ghost use Rattle.sweeps.specs.Firsts.{first_length_of, told, over_arc, LaggingOr};
 ghost use Rattle.sweeps.specs.Ranks.{is_tight};
 ghost use Rattle.sweeps.specs.Inwards.{net_of};
@@ -26,8 +26,7 @@ pub struct Rows<'a, M: Measure> {
 impl<M: Measure> Rows<'_, M> {
     // The first length of node j.
     fn first(&self, j: usize) -> Option<M>
-        requires low { 1 ≤ j }
-        requires high { j ≤ self.now.net.now.nodes }
+        requires { IsNode self.now.net.now.nodes j }
         ensures { result ≡ first_length_of M.Measure.algebra self.now.k self.now.values.now self.now.counts.now j }
     {
         if self.counts[j - 1] == 0 {

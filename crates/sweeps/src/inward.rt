@@ -1,6 +1,6 @@
 ghost use Rattle.std.specs.Prelude.{◌≡◌, ◌-◌, ◌≤◌, slice_index, slice_range};
 ghost use Rattle.std.proofs.Props.{props};
-ghost use Rattle.sweeps.specs.Nodes.{Known};
+ghost use Rattle.sweeps.specs.Nodes.{IsNode, Known};
 
 use super::Arc;
 use measure::Measure;
@@ -19,8 +19,7 @@ pub struct Inward<'a, M: Measure> {
 impl<M: Measure> Inward<'_, M> {
     // The arcs into node j, and their lengths.
     pub fn into_node(&self, j: usize) -> (&[Arc], &[M])
-        requires low { 1 ≤ j }
-        requires high { j ≤ self.now.nodes }
+        requires { IsNode self.now.nodes j }
         ensures arcs { result.0.now ≡ slice_range self.now.arcs.now (slice_index self.now.first.now (j - 1)) (slice_index self.now.first.now j) }
         ensures lengths { result.1.now ≡ slice_range self.now.lengths.now (slice_index self.now.first.now (j - 1)) (slice_index self.now.first.now j) }
     {

@@ -1,7 +1,7 @@
 // Working on a node: the lengths of its arcs' starts go on over the arcs, into its row.
-ghost use Rattle.std.specs.Prelude.{◌≡◌, ◌≤◌, ◌&&◌, length};
+ghost use Rattle.std.specs.Prelude.{◌≡◌, ◌&&◌, length};
 ghost use Rattle.walks.specs.Method.{takes};
-ghost use Rattle.sweeps.specs.Nodes.{Shape, TwoRows, ArcWorked, NodeWorked};
+ghost use Rattle.sweeps.specs.Nodes.{IsNode, Shape, TwoRows, ArcWorked, NodeWorked};
 ghost use Rattle.sweeps.specs.Inwards.{net_of};
 
 use super::Arc;
@@ -25,6 +25,7 @@ fn work_arc<M: Measure>(
     let source = (from - 1) * k;
     let target = (to - 1) * k;
     row.from = 0;
+    // by index, since both rows are parts of one table
     for p in 0..held {
         let a = values[source + p];
         if let Some(y) = a.join(&x) {
@@ -52,8 +53,7 @@ impl<M: Measure> Inward<'_, M> {
         counts: &mut [usize],
     ) -> bool
         requires shape { Shape self.now.nodes k (length values.old) counts.old }
-        requires low { 1 ≤ j }
-        requires high { j ≤ self.now.nodes }
+        requires node { IsNode self.now.nodes j }
         ensures { NodeWorked M.Measure.algebra (net_of M.Measure.algebra self.now) k down j values.old counts.old values.new counts.new result }
     {
         let mut row = Filling {

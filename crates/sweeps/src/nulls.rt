@@ -1,5 +1,6 @@
 // Whether a circuit whose length is null is reached.
 ghost use Rattle.std.specs.Prelude.{◌≤◌, length};
+ghost use Rattle.sweeps.specs.Nodes.{IsNode};
 ghost use Rattle.sweeps.specs.Ranks.{FreeOr, Climbs, Scanned, Ranked};
 ghost use Rattle.sweeps.specs.Inwards.{net_of};
 
@@ -10,8 +11,7 @@ use measure::Measure;
 impl<M: Measure> Rows<'_, M> {
     // Whether no tight arc leads to node j from a node that is not ranked.
     fn free(&self, j: usize, ranks: &[usize]) -> bool
-        requires low { 1 ≤ j }
-        requires high { j ≤ self.now.net.now.nodes }
+        requires node { IsNode self.now.net.now.nodes j }
         requires room { self.now.net.now.nodes ≤ length ranks.now }
         ensures { FreeOr M.Measure.algebra (net_of M.Measure.algebra self.now.net.now) self.now.k self.now.values.now self.now.counts.now ranks.now j result }
     {
@@ -31,6 +31,7 @@ impl<M: Measure> Rows<'_, M> {
         ensures { Scanned M.Measure.algebra (net_of M.Measure.algebra self.now.net.now) self.now.k self.now.values.now self.now.counts.now ranked ranks.new result }
     {
         let mut total = ranked;
+        // by index, since `free` reads all the ranks
         for i in 0..self.net.nodes {
             if ranks[i] == 0 && self.free(i + 1, ranks) {
                 total += 1;

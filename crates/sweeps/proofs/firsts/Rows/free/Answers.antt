@@ -18,7 +18,7 @@ overflow_sub-arc g c =
     let rows = c.args.self.now in
     let net = rows.net.now in
     let n = length c.loop-arc.yielded in
-    let b = block_item m net.nodes net.arcs.now net.lengths.now net.first.now net.known c.args.j c.requires.low c.requires.high _ _ c.into_node.ensures.arcs c.into_node.ensures.lengths _ _ _
+    let b = block_item m net.nodes net.arcs.now net.lengths.now net.first.now net.known c.args.j c.requires.node.low c.requires.node.high _ _ c.into_node.ensures.arcs c.into_node.ensures.lengths _ _ _
     (sides_turn c.into_iter-arc-iterator.ensures.into_iter_gives c.zip-arc-items.ensures.first c.iter.ensures.rest c.zip-arc-items.ensures.second.0 c.loop-arc.yielded c.loop-arc.arc-iterator c.next.new.self c.loop-arc.yielded_by (c.in-Some.arc, c.in-Some.x) c.in-Some.is c.next.ensures.steps) in
     let a = get_or net.first.now (c.args.j - 1) 0 + n in
     omega (arith, b.block.low, ap (λ z. z.start) b.arc_is)
@@ -29,7 +29,7 @@ bounds-ranks-arc g c =
     let rows = c.args.self.now in
     let net = rows.net.now in
     let n = length c.loop-arc.yielded in
-    let b = block_item m net.nodes net.arcs.now net.lengths.now net.first.now net.known c.args.j c.requires.low c.requires.high _ _ c.into_node.ensures.arcs c.into_node.ensures.lengths _ _ _
+    let b = block_item m net.nodes net.arcs.now net.lengths.now net.first.now net.known c.args.j c.requires.node.low c.requires.node.high _ _ c.into_node.ensures.arcs c.into_node.ensures.lengths _ _ _
     (sides_turn c.into_iter-arc-iterator.ensures.into_iter_gives c.zip-arc-items.ensures.first c.iter.ensures.rest c.zip-arc-items.ensures.second.0 c.loop-arc.yielded c.loop-arc.arc-iterator c.next.new.self c.loop-arc.yielded_by (c.in-Some.arc, c.in-Some.x) c.in-Some.is c.next.ensures.steps) in
     let a = get_or net.first.now (c.args.j - 1) 0 + n in
     omega (arith, b.block.low, b.block.high, ap (λ z. z.start) b.arc_is, c.requires.room)
@@ -40,7 +40,7 @@ tight-requires g c =
     let rows = c.args.self.now in
     let net = rows.net.now in
     let n = length c.loop-arc.yielded in
-    let b = block_item m net.nodes net.arcs.now net.lengths.now net.first.now net.known c.args.j c.requires.low c.requires.high _ _ c.into_node.ensures.arcs c.into_node.ensures.lengths _ _ _
+    let b = block_item m net.nodes net.arcs.now net.lengths.now net.first.now net.known c.args.j c.requires.node.low c.requires.node.high _ _ c.into_node.ensures.arcs c.into_node.ensures.lengths _ _ _
     (sides_turn c.into_iter-arc-iterator.ensures.into_iter_gives c.zip-arc-items.ensures.first c.iter.ensures.rest c.zip-arc-items.ensures.second.0 c.loop-arc.yielded c.loop-arc.arc-iterator c.next.new.self c.loop-arc.yielded_by (c.in-Some.arc, c.in-Some.x) c.in-Some.is c.next.ensures.steps) in
     let a = get_or net.first.now (c.args.j - 1) 0 + n in
     proper_fits m net.nodes net.arcs.now net.lengths.now a _ _ b.arc_is b.x_is (net.known.ordered.proper (suc a) (omega arith) (omega (arith, b.block.inside)))
@@ -51,7 +51,7 @@ returns-then-tight g c =
     let rows = c.args.self.now in
     let net = rows.net.now in
     let n = length c.loop-arc.yielded in
-    let b = block_item m net.nodes net.arcs.now net.lengths.now net.first.now net.known c.args.j c.requires.low c.requires.high _ _ c.into_node.ensures.arcs c.into_node.ensures.lengths _ _ _
+    let b = block_item m net.nodes net.arcs.now net.lengths.now net.first.now net.known c.args.j c.requires.node.low c.requires.node.high _ _ c.into_node.ensures.arcs c.into_node.ensures.lengths _ _ _
     (sides_turn c.into_iter-arc-iterator.ensures.into_iter_gives c.zip-arc-items.ensures.first c.iter.ensures.rest c.zip-arc-items.ensures.second.0 c.loop-arc.yielded c.loop-arc.arc-iterator c.next.new.self c.loop-arc.yielded_by (c.in-Some.arc, c.in-Some.x) c.in-Some.is c.next.ensures.steps) in
     let a = get_or net.first.now (c.args.j - 1) 0 + n in
     record {
@@ -69,7 +69,7 @@ loop-arc-preserved g c = λ i low high t.
     let rows = c.args.self.now in
     let net = rows.net.now in
     let n = length c.loop-arc.yielded in
-    let b = block_item m net.nodes net.arcs.now net.lengths.now net.first.now net.known c.args.j c.requires.low c.requires.high _ _ c.into_node.ensures.arcs c.into_node.ensures.lengths _ _ _
+    let b = block_item m net.nodes net.arcs.now net.lengths.now net.first.now net.known c.args.j c.requires.node.low c.requires.node.high _ _ c.into_node.ensures.arcs c.into_node.ensures.lengths _ _ _
     (sides_turn c.into_iter-arc-iterator.ensures.into_iter_gives c.zip-arc-items.ensures.first c.iter.ensures.rest c.zip-arc-items.ensures.second.0 c.loop-arc.yielded c.loop-arc.arc-iterator c.next.new.self c.loop-arc.yielded_by (c.in-Some.arc, c.in-Some.x) c.in-Some.is c.next.ensures.steps) in
     let a = get_or net.first.now (c.args.j - 1) 0 + n in
     elim (cases_eq i (suc a)) [
@@ -86,7 +86,7 @@ loop-arc-preserved g c = λ i low high t.
 pub returns : goal.returns
 returns g c = λ a low high t e.
     let net = c.args.self.now.net.now in
-    let size = block_size g.M.Measure.algebra net.nodes net.arcs.now net.lengths.now net.first.now net.known c.args.j c.requires.low c.requires.high _ _ c.into_node.ensures.arcs c.into_node.ensures.lengths _
+    let size = block_size g.M.Measure.algebra net.nodes net.arcs.now net.lengths.now net.first.now net.known c.args.j c.requires.node.low c.requires.node.high _ _ c.into_node.ensures.arcs c.into_node.ensures.lengths _
     (sides_end c.into_iter-arc-iterator.ensures.into_iter_gives c.zip-arc-items.ensures.first c.iter.ensures.rest c.zip-arc-items.ensures.second.0 c.loop-arc.yielded c.loop-arc.arc-iterator c.next.new.self c.loop-arc.yielded_by c.in-None.is c.next.ensures.steps) in
-    let b = in_block (net_of g.M.Measure.algebra net) net.first.now net.known.indexed c.args.j a c.requires.low c.requires.high low high e in
+    let b = in_block (net_of g.M.Measure.algebra net) net.first.now net.known.indexed c.args.j a c.requires.node.low c.requires.node.high low high e in
     c.loop-arc.invariant a b.0 (omega (arith, b.1)) t

@@ -20,4 +20,3 @@ loop-i-preserved g c =
         | else-ranks-i-eq0-via-else-ranks-i-eq0 v ↦ part_held m net p.k p.values.now p.counts.now _ _ _ _ c.loop-i.invariant v.if-ranks-i-eq0.false
       ])
     ]
-
