@@ -1,11 +1,13 @@
 -- What looking at the arc tables keeps from arc to arc.
-use Rattle.std.proofs.Common.{◌≡◌, ℕ, suc, ◌+◌, ◌^◌, ◌<◌, ◌≤◌, List, length, get_or, set, sym, refl, ap, subst, inl, inr, add-one, arith}
-use Rattle.std.proofs.lemmas.List.{get_or-set_same, get_or-set_other}
-use Rattle.std.proofs.lemmas.Bool.{cases_eq}
+use Rattle.std.proofs.Common.{zero, min, leb, true, false, take, length-take, ◌≡◌, ℕ, suc, ◌+◌, ◌<◌, ◌≤◌, List, length, get_or, set, sym, ap, ◌∙◌, subst, inl, inr, add-one, arith}
+use Rattle.std.proofs.lemmas.List.{get_or-set_same, get_or-set_other, get_or-take, get_or_default}
+use Rattle.std.proofs.lemmas.Bool.{cases_eq, leb-true, leb-false, le-leb}
+use Rattle.std.specs.List.Sorted.{IsPartitionedBy, IsPartitionPoint}
 use Rattle.measure.specs.Algebra.{Algebra}
 use Rattle.walks.specs.Networks.{Network, ProperArc}
 use Rattle.sweeps.specs.declared.Arc.{Arc}
-use Rattle.sweeps.specs.Tables.{network, no_arc, InOrder}
+use Rattle.sweeps.specs.Tables.{network, no_arc, arc_at, InOrder}
+use Rattle.sweeps.specs.Firsts.{over_arc, over_at}
 use Rattle.sweeps.specs.Nodes.{FitsArc, Indexed}
 
 module _ {V : Type 0} (m : Algebra V) (net : Network V) where
@@ -15,11 +17,8 @@ module _ {V : Type 0} (m : Algebra V) (net : Network V) where
     pub sorted : (b c : ℕ) → 1 ≤ b → b ≤ c → c ≤ a → net.end b ≤ net.end c
     pub last_end : last ≡ net.end a
 
-  pub checked_none : net.end 0 ≡ 0 → Checked 0 0
-  checked_none e = record { proper = λ b low high. absurd (omega arith); sorted = λ b c low le high. absurd (omega arith); last_end = sym e }
-
-  pub checked_more : (a last : ℕ) → Checked a last → ProperArc m net (suc a) → last ≤ net.end (suc a) → Checked (a + 1) (net.end (suc a))
-  checked_more a last h p le = subst (λ z. Checked z (net.end (suc a))) (sym (add-one a)) (record {
+  pub checked_more : (a last a' last' : ℕ) → Checked a last → a' ≡ a + 1 → last' ≡ net.end (suc a) → ProperArc m net (suc a) → last ≤ last' → Checked a' last'
+  checked_more a last a' last' h next ends p le = subst (λ z. Checked z last') (sym (next ∙ add-one a)) (record {
     proper = λ b low high. elim (cases_eq b (suc a)) [ inl e ↦ subst (ProperArc m net) (sym e) p | inr ne ↦ h.proper b low (omega arith) ];
     sorted = λ b c low less high. elim (cases_eq c (suc a)) [
       | inl e ↦ elim (cases_eq b (suc a)) [
@@ -31,70 +30,78 @@ module _ {V : Type 0} (m : Algebra V) (net : Network V) where
       ]
       | inr ne ↦ h.sorted b c low less (omega arith)
     ];
-    last_end = refl;
+    last_end = ends;
   })
 
   pub checked_all : (a last : ℕ) → a ≡ net.arcs → Checked a last → InOrder m net
   checked_all a last e h = record { proper = λ b low high. h.proper b low (omega arith); sorted = λ b c low less high. h.sorted b c low less (omega arith) }
 
-  pub checked_falls : (a last : ℕ) → net.end 0 ≡ 0 → a < net.arcs → Checked a last → net.end (suc a) < last → ¬ InOrder m net
-  checked_falls a last none lt h falls order = elim (cases_eq a 0) [
+  pub checked_falls : (a last end : ℕ) → net.end 0 ≡ 0 → a < net.arcs → Checked a last → end ≡ net.end (suc a) → end < last → ¬ InOrder m net
+  checked_falls a last end none lt h ends falls order = elim (cases_eq a 0) [
     | inl z ↦ omega (arith, h.last_end, ap net.end z)
     | inr more ↦ omega (arith, h.last_end, order.sorted a (suc a) (omega arith) (omega arith) (omega arith))
   ]
 
-pub fits_proper : {V : Type 0} (m : Algebra V) (n : ℕ) (arcs : List Arc) (lengths : List V) (a : ℕ) (x : V) → x ≡ get_or lengths a m.null → FitsArc m n (get_or arcs a no_arc) x → ProperArc m (network m n arcs lengths) (suc a)
-fits_proper m n arcs lengths a x e f =
-    record { start_low = f.start_low; start_high = f.start_high; end_low = f.end_low; end_high = f.end_high; apart = f.apart; small = subst (λ z. m.magnitude z ≤ 10 ^ 9) e f.small }
+module _ {V : Type 0} (m : Algebra V) (n : ℕ) (arcs : List Arc) (lengths : List V) (a : ℕ) (arc : Arc) (x : V) (arc_is : arc ≡ get_or arcs a no_arc) (x_is : x ≡ get_or lengths a m.null) where
+  pub fits_proper : FitsArc m n arc x → ProperArc m (network m n arcs lengths) (suc a)
+  fits_proper f =
+      let g : FitsArc m n (get_or arcs a no_arc) (get_or lengths a m.null) = subst (λ z. FitsArc m n z (get_or lengths a m.null)) arc_is (subst (FitsArc m n arc) x_is f) in
+      record { start_low = g.start_low; start_high = g.start_high; end_low = g.end_low; end_high = g.end_high; apart = g.apart; small = g.small }
 
-pub proper_fits : {V : Type 0} (m : Algebra V) (n : ℕ) (arcs : List Arc) (lengths : List V) (a : ℕ) (x : V) → x ≡ get_or lengths a m.null → ProperArc m (network m n arcs lengths) (suc a) → FitsArc m n (get_or arcs a no_arc) x
-proper_fits m n arcs lengths a x e f =
-    record { start_low = f.start_low; start_high = f.start_high; end_low = f.end_low; end_high = f.end_high; apart = f.apart; small = subst (λ z. m.magnitude z ≤ 10 ^ 9) (sym e) f.small }
+  pub proper_fits : ProperArc m (network m n arcs lengths) (suc a) → FitsArc m n arc x
+  proper_fits p =
+      let g : FitsArc m n (get_or arcs a no_arc) (get_or lengths a m.null) = record { start_low = p.start_low; start_high = p.start_high; end_low = p.end_low; end_high = p.end_high; apart = p.apart; small = p.small } in
+      subst (λ z. FitsArc m n z x) (sym arc_is) (subst (FitsArc m n (get_or arcs a no_arc)) (sym x_is) g)
+
+  pub over_read : (k : ℕ) (values : List V) (counts : List ℕ) → over_arc m k values counts arc x ≡ over_at m (network m n arcs lengths) k values counts (suc a)
+  over_read k values counts = ap (λ z. over_arc m k values counts z x) arc_is ∙ ap (over_arc m k values counts (get_or arcs a no_arc)) x_is
 
 module _ {V : Type 0} (net : Network V) where
-  -- all arcs up to `below` end at j or below
-  pub record Under (below j : ℕ) : Type 0 where
+  -- the arcs up to `below` end at j or below, and no others do
+  pub record Splits (below j : ℕ) : Type 0 where
     pub few : below ≤ net.arcs
     pub under : (a : ℕ) → 1 ≤ a → a ≤ below → net.end a ≤ j
-
-  -- and no others do
-  pub record Splits (below j : ℕ) : Type 0 where
-    pub under : Under below j
     pub above : (a : ℕ) → below < a → a ≤ net.arcs → j < net.end a
 
   -- the cells before j are written
-  pub record Indexing (first : List ℕ) (below j : ℕ) : Type 0 where
-    pub reach : Under below j
-    pub made : (i : ℕ) → i < j → Splits (get_or first i 0) i
+  abbrev pub Indexing : List ℕ → ℕ → Type 0
+  Indexing first j = (i : ℕ) → i < j → Splits (get_or first i 0) i
 
-  pub under_more : (below j : ℕ) → Under below j → below < net.arcs → net.end (suc below) ≤ j → Under (below + 1) j
-  under_more below j h lt le = record {
-    few = omega arith;
-    under = λ a low high. elim (cases_eq a (suc below)) [ inl e ↦ omega (arith, ap net.end e) | inr ne ↦ h.under a low (omega arith) ];
-  }
+  pub indexing_more : (first : List ℕ) (below j : ℕ) → Indexing first j → j < length first → Splits below j → Indexing (set first j below) (j + 1)
+  indexing_more first below j h lt s i less = elim (cases_eq i j) [
+    | inl e ↦ subst (λ z. Splits (get_or (set first j below) z 0) z) (sym e) (subst (λ z. Splits z j) (sym (get_or-set_same first j below 0 lt)) s)
+    | inr ne ↦ subst (λ z. Splits z i) (sym (get_or-set_other first j i below 0 ne)) (h i (omega arith))
+  ]
 
-  pub splits_end : (below j : ℕ) → Under below j → net.arcs ≤ below → Splits below j
-  splits_end below j h le = record { under = h; above = λ a lt high. absurd (omega arith) }
-
-  pub splits_at : (below j : ℕ) → Under below j → ((a b : ℕ) → 1 ≤ a → a ≤ b → b ≤ net.arcs → net.end a ≤ net.end b) → j < net.end (suc below) → Splits below j
-  splits_at below j h sorted past = record { under = h; above = λ a lt high. let s = sorted (suc below) a (omega arith) (omega arith) high in omega arith }
-
-  pub indexing_none : (first : List ℕ) → Indexing first 0 0
-  indexing_none first = record { reach = record { few = omega arith; under = λ a low high. absurd (omega arith) }; made = λ i lt. absurd (omega arith) }
-
-  pub indexing_more : (first : List ℕ) (was below j : ℕ) → Indexing first was j → j < length first → Splits below j → Indexing (set first j below) below (j + 1)
-  indexing_more first was below j h lt s = record {
-    reach = record { few = s.under.few; under = λ a low high. let p = s.under.under a low high in omega arith };
-    made = λ i less. elim (cases_eq i j) [
-      | inl e ↦ subst (λ z. Splits (get_or (set first j below) z 0) z) (sym e) (subst (λ z. Splits z j) (sym (get_or-set_same first j below 0 lt)) s)
-      | inr ne ↦ subst (λ z. Splits z i) (sym (get_or-set_other first j i below 0 ne)) (h.made i (omega arith))
-    ];
-  }
-
-  pub indexing_all : (first : List ℕ) (below j : ℕ) → j ≡ net.nodes + 1 → suc net.nodes ≤ length first → Indexing first below j → Indexed net first
-  indexing_all first below j e room h = record {
+  pub indexing_all : (first : List ℕ) (j : ℕ) → j ≡ suc net.nodes → suc net.nodes ≤ length first → Indexing first j → Indexed net first
+  indexing_all first j e room h = record {
     room = room;
-    few = λ i le. (h.made i (omega arith)).under.few;
-    below = λ i a le low high. (h.made i (omega arith)).under.under a low high;
-    above = λ i a le low high. (h.made i (omega arith)).above a low high;
+    few = λ i le. (h i (omega arith)).few;
+    below = λ i a le. (h i (omega arith)).under a;
+    above = λ i a le. (h i (omega arith)).above a;
   }
+
+module _ {V : Type 0} (m : Algebra V) (n : ℕ) (arcs : List Arc) (lengths : List V) (total : ℕ) (total_is : total ≡ min (length arcs) (length lengths)) (j : ℕ) where
+  arc_is : (i : ℕ) (d : Arc) → i < total → get_or (take total arcs) i d ≡ get_or arcs i no_arc
+  arc_is i d lt = get_or-take total arcs i d lt ∙ get_or_default arcs i d no_arc (omega arith)
+
+  size : length (take total arcs) ≡ total
+  size = length-take total arcs ∙ omega arith
+
+  -- the arcs that end at j or below come first
+  pub parted : InOrder m (network m n arcs lengths) → IsPartitionedBy (λ arc. leb arc.end j) (take total arcs)
+  parted order = λ i k d le lt below.
+      let last = leb-true _ j below in
+      let up = order.sorted (suc i) (suc k) (omega arith) (omega arith) (omega (arith, size)) in
+      le-leb _ j (omega (arith, ap (λ z. z.end) (arc_is i d (omega (arith, size))), ap (λ z. z.end) (arc_is k d (omega (arith, size)))))
+
+  pub splits_of : (i : ℕ) → i ≤ length (take total arcs) → IsPartitionPoint (λ arc. leb arc.end j ≡ true) (λ arc. leb arc.end j ≡ false) (take total arcs) i → Splits (network m n arcs lengths) i j
+  splits_of i short point = record { few = omega (arith, size); under = under; above = above }
+    where
+      under : (a : ℕ) → 1 ≤ a → a ≤ i → (arc_at arcs a).end ≤ j
+      under zero low high = absurd (omega arith)
+      under (suc a) low high = omega (arith, leb-true _ j (point.0 a no_arc (omega arith) (omega arith)), ap (λ z. z.end) (arc_is a no_arc (omega (arith, size))))
+
+      above : (a : ℕ) → i < a → a ≤ min (length arcs) (length lengths) → j < (arc_at arcs a).end
+      above zero low high = absurd (omega arith)
+      above (suc a) low high = omega (arith, leb-false _ j (point.1 a no_arc (omega arith) (omega (arith, size))), ap (λ z. z.end) (arc_is a no_arc (omega arith)))

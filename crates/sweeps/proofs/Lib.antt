@@ -5,6 +5,7 @@ pub mod Bridge
 pub mod Passing
 pub mod Looping
 pub mod Standing
+pub mod Sides
 pub mod Checking
 pub mod Ranking
 pub mod Rings

@@ -1,13 +1,14 @@
 -- What working on a node keeps from arc to arc.
-use Rattle.std.proofs.Common.{◌≡◌, ℕ, zero, suc, ◌+◌, ◌-◌, ◌<◌, ◌≤◌, Bool, true, false, cond, ◌&&◌, eqb, List, get_or, take, drop, sym, refl, ap, ◌∙◌, subst, inl, inr, mul-le-mul_right, add-one, arith}
-use Rattle.std.proofs.lemmas.List.{drop-take, take-take, drop-drop}
+use Rattle.std.proofs.Common.{◌≡◌, ℕ, zero, suc, ◌+◌, ◌-◌, ◌<◌, ◌≤◌, Bool, true, false, cond, ◌&&◌, eqb, min, List, length, get_or, take, drop, sym, refl, ap, ◌∙◌, subst, inl, inr, mul-le-mul_right, add-one, arith, length-take, length-drop}
+use Rattle.std.proofs.lemmas.List.{get_or-take, get_or-drop, drop-take, take-take, drop-drop}
+use Rattle.std.specs.List.{slice_range}
 use Rattle.std.proofs.lemmas.Bool.{cases_eq, cases_lt, eq-eqb, ne_eqb, and_right}
 use Rattle.measure.specs.Algebra.{Algebra, Laws}
 use Rattle.walks.specs.Networks.{Network, WellFormed}
 use Rattle.walks.specs.Rows.{Ascending}
 use Rattle.walks.specs.Method.{takes, uses}
 use Rattle.sweeps.specs.declared.Arc.{Arc}
-use Rattle.sweeps.specs.Tables.{network, InOrder, start_of, cells, count_of, row_of}
+use Rattle.sweeps.specs.Tables.{network, no_arc, InOrder, start_of, cells, count_of, row_of}
 use Rattle.sweeps.specs.Nodes.{Indexed, Known, Shape, TwoRows, Marked, worked, RowIs, ArcWorked, node_row}
 use Rattle.sweeps.proofs.Working.{row_below, apart_cases, worked_up}
 
@@ -86,6 +87,34 @@ block_arc m n arcs lengths first known j one le a low high =
     let p = known.ordered.proper (suc a) (omega arith) (omega arith) in
     record { inside = inside; into = into; low = p.start_low; high = p.start_high; apart = λ e. p.apart (e ∙ sym into) }
 
+-- the part of the tables that holds the arcs into node j
+module _ {V : Type 0} (m : Algebra V) (n : ℕ) (arcs : List Arc) (lengths : List V) (first : List ℕ) (known : Known m n arcs lengths first) (j : ℕ) (one : 1 ≤ j) (le : j ≤ n) (part : List Arc) (parts : List V)
+    (part_is : part ≡ slice_range arcs (get_or first (j - 1) 0) (get_or first j 0)) (parts_are : parts ≡ slice_range lengths (get_or first (j - 1) 0) (get_or first j 0)) where
+  -- an arc of that part, and its length
+  pub record BlockItem (i : ℕ) (arc : Arc) (x : V) : Type 0 where
+    pub block : BlockArc (network m n arcs lengths) j (get_or first (j - 1) 0 + i)
+    pub arc_is : arc ≡ get_or arcs (get_or first (j - 1) 0 + i) no_arc
+    pub x_is : x ≡ get_or lengths (get_or first (j - 1) 0 + i) m.null
+
+  pub block_item : (i : ℕ) (arc : Arc) (x : V) → (i < length part) × (i < length parts) × ((d : Arc) → arc ≡ get_or part i d) × ((d : V) → x ≡ get_or parts i d) → BlockItem i arc x
+  block_item i arc x h =
+      let lo : ℕ = get_or first (j - 1) 0 in
+      let hi : ℕ = get_or first j 0 in
+      let inside : i < hi - lo = omega (arith, h.0, ap length part_is, length-take (hi - lo) (drop lo arcs)) in
+      record {
+        block = block_arc m n arcs lengths first known j one le (lo + i) (omega arith) (omega arith);
+        arc_is = h.2 no_arc ∙ ap (λ z. get_or z i no_arc) part_is ∙ get_or-take (hi - lo) (drop lo arcs) i no_arc inside ∙ get_or-drop lo arcs i no_arc;
+        x_is = h.3 m.null ∙ ap (λ z. get_or z i m.null) parts_are ∙ get_or-take (hi - lo) (drop lo lengths) i m.null inside ∙ get_or-drop lo lengths i m.null;
+      }
+
+  pub block_size : (i : ℕ) → i ≡ min (length part) (length parts) → get_or first (j - 1) 0 + i ≡ get_or first j 0
+  block_size i e =
+      let lo : ℕ = get_or first (j - 1) 0 in
+      let hi : ℕ = get_or first j 0 in
+      let few = known.indexed.few j le in
+      let up = block_ordered (network m n arcs lengths) first known.indexed j one le in
+      omega (arith, ap length part_is, length-take (hi - lo) (drop lo arcs), length-drop lo arcs, ap length parts_are, length-take (hi - lo) (drop lo lengths), length-drop lo lengths)
+
 pub in_block : {V : Type 0} (net : Network V) (first : List ℕ) → Indexed net first → (j a : ℕ) → 1 ≤ j → j ≤ net.nodes → 1 ≤ a → a ≤ net.arcs → net.end a ≡ j → (get_or first (j - 1) 0 < a) × (a ≤ get_or first j 0)
 in_block net first index j a one le low high e = (
   elim (cases_lt (get_or first (j - 1) 0) a) [ inl l ↦ l | inr g ↦ let p = index.below (j - 1) a (omega arith) low g in absurd (omega arith) ],
@@ -115,11 +144,11 @@ module _ {V : Type 0} (m : Algebra V) (net : Network V) (k : ℕ) (down : Bool) 
       go false before = before
 
   module _ (first : List ℕ) (index : Indexed net first) (one : 1 ≤ j) (le : j ≤ net.nodes) where
-    pub node_none : (count : ℕ) → count ≡ count_of counts j → count ≤ k → RowIs m k j v0 (count_of counts j) (row_at (get_or first (j - 1) 0)) v0 count false
-    node_none count e short = record {
+    pub node_none : (a count : ℕ) → a ≡ get_or first (j - 1) 0 → count ≡ count_of counts j → count ≤ k → RowIs m k j v0 (count_of counts j) (row_at a) v0 count false
+    node_none a count start e short = record {
       bound = short;
       grows = omega arith;
-      lengths = λ up. ap (λ (z : ℕ). (take z (cells k j v0), false)) e ∙ sym (rows_off 0 (get_or first (j - 1) 0) (omega arith) (λ c low high z. let p = index.below (j - 1) c (omega arith) low high in omega arith));
+      lengths = λ up. ap (λ (z : ℕ). (take z (cells k j v0), false)) e ∙ sym (rows_off 0 a (omega arith) (λ c low high z. let p = index.below (j - 1) c (omega arith) low (omega arith) in omega arith));
       rest = refl;
       size = refl;
       before = refl;
@@ -131,25 +160,26 @@ module _ {V : Type 0} (m : Algebra V) (net : Network V) (k : ℕ) (down : Bool) 
         let same : row_at a ≡ row_at net.arcs = ap row_at e ∙ sym (rows_off (get_or first j 0) net.arcs (index.few j le) (λ c low high z. let p = index.above j c le low high in omega arith)) in
         subst (λ z. RowIs m k j v0 (count_of counts j) z v count changed) same h
 
-  pub node_skip : (a count : ℕ) (changed : Bool) (v : List V) → RowIs m k j v0 (count_of counts j) (row_at a) v count changed → uses net down j (suc a) ≡ false → RowIs m k j v0 (count_of counts j) (row_at (a + 1)) v count changed
-  node_skip a count changed v h skipped = subst (λ z. RowIs m k j v0 (count_of counts j) z v count changed) (sym (ap row_at (add-one a) ∙ row_off a skipped)) h
+  pub node_skip : (a a' count : ℕ) (changed : Bool) (v : List V) → a' ≡ a + 1 → RowIs m k j v0 (count_of counts j) (row_at a) v count changed → uses net down j (suc a) ≡ false → RowIs m k j v0 (count_of counts j) (row_at a') v count changed
+  node_skip a a' count changed v next h skipped = subst (λ z. RowIs m k j v0 (count_of counts j) z v count changed) (sym (ap row_at (next ∙ add-one a) ∙ row_off a skipped)) h
 
-  pub node_more : (a count count' : ℕ) (changed changed' : Bool) (v v' : List V) (x : V) → Laws m → RowIs m k j v0 (count_of counts j) (row_at a) v count changed
+  pub node_more : (a a' i count count' : ℕ) (changed changed' : Bool) (v v' : List V) (x : V) → Laws m → a' ≡ a + 1 → i ≡ net.start (suc a) → RowIs m k j v0 (count_of counts j) (row_at a) v count changed
       → uses net down j (suc a) ≡ true → x ≡ net.arc_length (suc a) → 1 ≤ net.start (suc a) → 1 ≤ j → ¬ (net.start (suc a) ≡ j)
-      → ArcWorked m k (net.start (suc a)) (count_of counts (net.start (suc a))) j count changed x v v' count' changed'
-      → RowIs m k j v0 (count_of counts j) (row_at (a + 1)) v' count' changed'
-  node_more a count count' changed changed' v v' x laws h way read low one ne w =
-      let i : ℕ = net.start (suc a) in
+      → ArcWorked m k i (count_of counts i) j count changed x v v' count' changed'
+      → RowIs m k j v0 (count_of counts j) (row_at a') v' count' changed'
+  node_more a a' i count count' changed changed' v v' x laws next from h way read low one ne w =
+      let start : ℕ = net.start (suc a) in
       let e : count + (count' - count) ≡ count' = omega (arith, w.grows) in
       record {
         bound = w.bound;
         grows = omega (arith, h.grows, w.grows);
         lengths = λ up. w.lengths (subst (Ascending m) (sym (ap (λ (z : Marked V). z.0) (h.lengths up))) (row_up laws up a))
-            ∙ ap (λ z. worked m k x z (take (count_of counts i) (cells k i v))) (h.lengths up)
-            ∙ ap (λ z. worked m k x (row_at a) (take (count_of counts i) z)) (other_cells k i j v0 v low one ne h.before h.after)
-            ∙ ap (λ z. worked m k z (row_at a) (row_of k i v0 counts)) read
-            ∙ ap (λ z. cond z (worked m k (net.arc_length (suc a)) (row_at a) (row_of k i v0 counts)) (row_at a)) (sym way)
-            ∙ ap row_at (sym (add-one a));
+            ∙ ap (λ z. worked m k x (take count (cells k j v), changed) (take (count_of counts z) (cells k z v))) from
+            ∙ ap (λ z. worked m k x z (take (count_of counts start) (cells k start v))) (h.lengths up)
+            ∙ ap (λ z. worked m k x (row_at a) (take (count_of counts start) z)) (other_cells k start j v0 v low one ne h.before h.after)
+            ∙ ap (λ z. worked m k z (row_at a) (row_of k start v0 counts)) read
+            ∙ ap (λ z. cond z (worked m k (net.arc_length (suc a)) (row_at a) (row_of k start v0 counts)) (row_at a)) (sym way)
+            ∙ ap row_at (sym (next ∙ add-one a));
         rest = w.rest ∙ ap (λ z. drop z (cells k j v)) (sym e) ∙ sym (drop-drop (count' - count) count (cells k j v))
             ∙ ap (drop (count' - count)) h.rest ∙ drop-drop (count' - count) count (cells k j v0) ∙ ap (λ z. drop z (cells k j v0)) e;
         size = w.size ∙ h.size;

@@ -1,49 +1,70 @@
 -- What placing a length keeps from cell to cell.
-use Rattle.std.proofs.Common.{◌≡◌, ℕ, zero, suc, ◌+◌, ◌-◌, ◌<◌, ◌≤◌, Bool, true, false, ◌&&◌, ◌||◌, ltb, List, [], ◌∷◌, ◌++◌, length, get_or, take, drop, set, Ordering, Less, Equal, Greater, sym, refl, ap, ◌∙◌, subst, inl, inr, append_assoc, arith, length-append, length-set, take-append-drop, length-take}
-use lib.Seq.{take-append-add, drop-append-le}
-use Rattle.std.proofs.lemmas.List.{take_more, take_more_set, drop_more, get_or-take, drop-set-lt, drop_all, take_all, take_at, take-take, get_or_default}
-use Rattle.std.proofs.lemmas.Bool.{lt-ltb, le-ltb, cases_eq, cases_lt, and_parts, cond_both, ltb-true, true≢false, false≢true}
-use Rattle.std.specs.Ordering.{ordering_reverse}
+use Rattle.std.proofs.Common.{◌≡◌, ℕ, zero, suc, ◌+◌, ◌-◌, ◌<◌, ◌≤◌, Bool, true, false, ◌&&◌, ◌||◌, ltb, List, [], ◌∷◌, ◌++◌, length, get_or, take, drop, set, Ordering, Less, Equal, Greater, sym, refl, ap, ◌∙◌, inl, inr, append_assoc, arith, length-append, length-set, take-append-drop, length-take, length-drop}
+use borrow.Rule.Slice.PartMut.{put_mid}
+use Rattle.std.proofs.lemmas.Slice.{take-put_mid, drop-put_mid}
+use lib.Seq.{take-append-add}
+use Rattle.std.proofs.lemmas.List.{take_more, take_more_set, drop_more, get_or-take, drop-take, drop-set-lt, drop_all, take_all, take_at, take-take, get_or_default}
+use Rattle.std.proofs.lemmas.Bool.{lt-ltb, le-ltb, cases_lt, and_parts, cond_both, ltb-true, true≢false, false≢true}
+use Rattle.std.specs.Ordering.{is_eq, is_gt, ordering_reverse}
 use Rattle.measure.specs.Algebra.{Algebra, Laws, Before}
 use Rattle.walks.specs.Rows.{BeforeAll, Ascending}
 use Rattle.walks.specs.Method.{choose, place}
 use Rattle.walks.proofs.Orders.{greater}
-use Rattle.sweeps.specs.Places.{is_after, is_same, fresh, first_cell, RowPlaced}
+use Rattle.sweeps.specs.Places.{fresh, first_cell, RowPlaced}
 
-pub tells_after : (o : Ordering) → true ≡ is_after o → o ≡ Greater
+pub tells_after : (o : Ordering) → true ≡ is_gt o → o ≡ Greater
 tells_after Less e = absurd (true≢false e)
 tells_after Equal e = absurd (true≢false e)
 tells_after Greater e = refl
 
-pub tells_same : (o : Ordering) → true ≡ is_same o → o ≡ Equal
+pub tells_same : (o : Ordering) → true ≡ is_eq o → o ≡ Equal
 tells_same Less e = absurd (true≢false e)
 tells_same Equal e = refl
 tells_same Greater e = absurd (true≢false e)
 
-tells_before : (o : Ordering) → false ≡ is_after o → false ≡ is_same o → o ≡ Less
+tells_before : (o : Ordering) → false ≡ is_gt o → false ≡ is_eq o → o ≡ Less
 tells_before Less e f = refl
 tells_before Equal e f = absurd (false≢true f)
 tells_before Greater e f = absurd (false≢true e)
 
-or_true : (a : Bool) → (a || true) ≡ true
+pub or_true : (a : Bool) → (a || true) ≡ true
 or_true true = refl
 or_true false = refl
 
-or_false : (a : Bool) → (a || false) ≡ a
+pub or_false : (a : Bool) → (a || false) ≡ a
 or_false true = refl
 or_false false = refl
+
+module _ {V : Type 0} (x : V) (cells0 : List V) where
+  -- the first i cells have moved on by one to let x in
+  pub record Shifts (i : ℕ) (cells : List V) (carry : V) : Type 0 where
+    pub size : length cells ≡ length cells0
+    pub ahead : drop i cells ≡ drop i cells0
+    pub moved : take i cells ++ carry ∷ [] ≡ x ∷ take i cells0
+
+  pub shifts_none : Shifts 0 cells0 x
+  shifts_none = record { size = refl; ahead = refl; moved = refl }
+
+  pub shifts_more : (i : ℕ) (cells : List V) (carry y : V) → i < length cells0 → y ≡ get_or cells i y → Shifts i cells carry → Shifts (i + 1) (set cells i carry) y
+  shifts_more i cells carry y lt0 read h =
+      let lt : i < length cells = omega (arith, h.size) in
+      let past : i < i + 1 = omega arith in
+      let a = drop_more cells i y lt in
+      let b = drop_more cells0 i y lt0 in
+      let ahead = h.ahead in
+      let heads : get_or cells i y ≡ get_or cells0 i y = cc in
+      let tails : drop (i + 1) cells ≡ drop (i + 1) cells0 = cc in
+      record {
+        size = length-set cells i carry ∙ h.size;
+        ahead = drop-set-lt (i + 1) cells i carry past ∙ tails;
+        moved = ap (λ l. l ++ y ∷ []) (take_more_set cells i carry lt ∙ h.moved) ∙ ap (λ z. x ∷ (take i cells0 ++ z ∷ [])) (read ∙ heads) ∙ ap (λ l. x ∷ l) (sym (take_more cells0 i y lt0));
+      }
 
 module _ {V : Type 0} (m : Algebra V) where
   -- x comes after each of the first i cells
   pub record Past (row : List V) (count : ℕ) (x : V) (i : ℕ) : Type 0 where
     pub low : i ≤ count
     pub all : (p : ℕ) → p < i → m.compare x (get_or row p x) ≡ Greater
-
-  -- the cells from `at` to i have moved on by one to let x in
-  pub record Shifts (row0 : List V) (at : ℕ) (x : V) (i : ℕ) (row : List V) (carry : V) : Type 0 where
-    pub size : length row ≡ length row0
-    pub ahead : drop i row ≡ drop i row0
-    pub moved : take i row ++ carry ∷ [] ≡ take at row0 ++ x ∷ drop at (take i row0)
 
   -- x comes in before the cell `at`, or after all `count`
   pub record Lands (row0 : List V) (count : ℕ) (x : V) (at : ℕ) : Type 0 where
@@ -120,33 +141,23 @@ module _ {V : Type 0} (m : Algebra V) where
 
     -- the cells before the first one to compare x with are before x
     pub first_low : (from : ℕ) → from ≤ count → first_cell m row0 from x ≤ count
-    first_low from le = cond_both (ltb 0 from && is_after (m.compare x (get_or row0 (from - 1) x))) from 0 (λ z. z ≤ count) (λ t. le) (λ f. omega arith)
+    first_low from le = cond_both (ltb 0 from && is_gt (m.compare x (get_or row0 (from - 1) x))) from 0 (λ z. z ≤ count) (λ t. le) (λ f. omega arith)
 
     pub first_past : Laws m → (from : ℕ) → from ≤ count → Ascending m (take count row0) → Past row0 count x (first_cell m row0 from x)
-    first_past laws from le up = cond_both (ltb 0 from && is_after (m.compare x (get_or row0 (from - 1) x))) from 0 (Past row0 count x) yes (λ f. past_none)
+    first_past laws from le up = cond_both (ltb 0 from && is_gt (m.compare x (get_or row0 (from - 1) x))) from 0 (Past row0 count x) yes (λ f. past_none)
       where
-        yes : (ltb 0 from && is_after (m.compare x (get_or row0 (from - 1) x))) ≡ true → Past row0 count x from
+        yes : (ltb 0 from && is_gt (m.compare x (get_or row0 (from - 1) x))) ≡ true → Past row0 count x from
         yes t =
-            let b = and_parts (ltb 0 from) (is_after (m.compare x (get_or row0 (from - 1) x))) t in
+            let b = and_parts (ltb 0 from) (is_gt (m.compare x (get_or row0 (from - 1) x))) t in
             let some = ltb-true 0 from b.0 in
             let after : m.compare x (get_or (take count row0) (from - 1) x) ≡ Greater = ap (m.compare x) (get_or-take count row0 (from - 1) x (omega arith)) ∙ tells_after (m.compare x (get_or row0 (from - 1) x)) (sym b.1) in
             record { low = le; all = λ p lt. ap (m.compare x) (sym (get_or-take count row0 p x (omega arith))) ∙ earlier laws x x (take count row0) (from - 1) up (omega (arith, long)) after p (omega arith) }
 
-    pub past_more : (i : ℕ) (d : V) → Past row0 count x i → i < count → m.compare x (get_or row0 i d) ≡ Greater → Past row0 count x (i + 1)
-    past_more i d h below greater =
-        record {
-          low = omega arith;
-          all = λ p lt. elim (cases_eq p i) [
-            | inl e ↦ ap (λ z. m.compare x z) (ap (λ n. get_or row0 n x) e ∙ get_or_default row0 i x d (omega arith)) ∙ greater
-            | inr ne ↦ h.all p (omega arith)
-          ];
-        }
-
-    pub next_less : (i : ℕ) (d e : V) → i < count → false ≡ is_after (m.compare x (get_or row0 i d)) → false ≡ is_same (m.compare x (get_or row0 i e)) → m.compare x (get_or row0 i x) ≡ Less
+    pub next_less : (i : ℕ) (d e : V) → i < count → false ≡ is_gt (m.compare x (get_or row0 i d)) → false ≡ is_eq (m.compare x (get_or row0 i e)) → m.compare x (get_or row0 i x) ≡ Less
     next_less i d e below after same =
         tells_before _
-        (after ∙ ap (λ z. is_after (m.compare x z)) (get_or_default row0 i d x (omega arith)))
-        (same ∙ ap (λ z. is_same (m.compare x z)) (get_or_default row0 i e x (omega arith)))
+        (after ∙ ap (λ z. is_gt (m.compare x z)) (get_or_default row0 i d x (omega arith)))
+        (same ∙ ap (λ z. is_eq (m.compare x z)) (get_or_default row0 i e x (omega arith)))
 
     pub placed_same : (i : ℕ) (d : V) → Seeks row0 count x i → i < count → m.compare x (get_or row0 i d) ≡ Equal → RowPlaced m row0 count was x row0 count was (i + 1)
     placed_same i d h below equal =
@@ -195,37 +206,31 @@ module _ {V : Type 0} (m : Algebra V) where
           }
     ]
 
-    pub shifts_none : (at : ℕ) → at ≤ count → Shifts row0 at x at row0 x
-    shifts_none at le = record { size = refl; ahead = refl; moved = ap (λ l. take at row0 ++ x ∷ l) (sym (drop_all at (take at row0) (omega (arith, length-take at row0)))) }
-
-    pub shifts_more : (at i : ℕ) (row : List V) (carry y : V) → at ≤ i → i < count → y ≡ get_or row i y → Shifts row0 at x i row carry → Shifts row0 at x (i + 1) (set row i carry) y
-    shifts_more at i row carry y le below read h =
-        let lt : i < length row = omega (arith, h.size) in
-        let lt0 : i < length row0 = omega arith in
-        let past : i < i + 1 = omega arith in
-        let a = drop_more row i y lt in
-        let b = drop_more row0 i y lt0 in
-        let ahead = h.ahead in
-        let heads : get_or row i y ≡ get_or row0 i y = cc in
-        let tails : drop (i + 1) row ≡ drop (i + 1) row0 = cc in
-        let enough : at ≤ length (take i row0) = omega (arith, length-take i row0) in
-        record {
-          size = length-set row i carry ∙ h.size;
-          ahead = drop-set-lt (i + 1) row i carry past ∙ tails;
-          moved =
-              ap (λ l. l ++ y ∷ []) (take_more_set row i carry lt ∙ h.moved)
-              ∙ append_assoc (take at row0) (x ∷ drop at (take i row0)) (y ∷ [])
-              ∙ ap (λ l. take at row0 ++ x ∷ l) (sym (drop-append-le at (take i row0) (y ∷ []) enough)
-              ∙ ap (λ z. drop at (take i row0 ++ z ∷ [])) (read ∙ heads) ∙ ap (drop at) (sym (take_more row0 i y lt0)));
-        }
-
     -- all the cells have moved, and the last length of them is carried
-    module _ (at i : ℕ) (row : List V) (carry : V) (e : i ≡ count) (low : at ≤ count) (l : Ascending m (take count row0) → Lands row0 count x at) (h : Shifts row0 at x i row carry) where
-      end : Shifts row0 at x count row carry
-      end = subst (λ z. Shifts row0 at x z row carry) e h
+    module _ (at i : ℕ) (cells : List V) (carry : V) (low : at ≤ count) (l : Ascending m (take count row0) → Lands row0 count x at)
+        (h : Shifts x (take (count - at) (drop at row0)) i cells carry) (e : length (take (count - at) (drop at row0)) ≤ i) where
+      abbrev row : List V
+      row = put_mid at (count - at) row0 cells
+
+      span : length cells ≡ count - at
+      span = h.size ∙ length-take (count - at) (drop at row0) ∙ omega (arith, length-drop at row0)
+
+      size : length row ≡ length row0
+      size = simp (length-append, length-drop, length-take) (omega (arith, span))
+
+      ahead : drop count row ≡ drop count row0
+      ahead = drop-put_mid at (count - at) row0 cells count (omega arith) (omega arith) span
+
+      moved : take count row ++ carry ∷ [] ≡ take at row0 ++ x ∷ drop at (take count row0)
+      moved =
+          let to : at + (count - at) ≡ count = omega arith in
+          ap (λ z. z ++ carry ∷ []) (take-put_mid at (count - at) row0 cells count (omega (arith, span)) (omega arith))
+          ∙ append_assoc (take at row0) cells (carry ∷ [])
+          ∙ ap (λ z. take at row0 ++ z) (ap (λ z. z ++ carry ∷ []) (sym (take_all i cells (omega (arith, h.size)))) ∙ h.moved
+          ∙ ap (λ z. x ∷ z) (take_all i (take (count - at) (drop at row0)) e ∙ sym (drop-take at (count - at) row0) ∙ ap (λ z. drop at (take z row0)) to))
 
       all_of : Ascending m (take count row0) → place m (length row0) x (take count row0) ≡ take (length row0) (take count row ++ carry ∷ [])
-      all_of up = (l up).comes ∙ ap (take (length row0)) (sym end.moved)
+      all_of up = (l up).comes ∙ ap (take (length row0)) (sym moved)
 
       flagged : Ascending m (take count row0) → (b : Bool) → b ≡ (ltb at count || ltb count (length row0)) → (was || b) ≡ (was || fresh m (ltb count (length row0)) x (take count row0))
       flagged up b f = ap (λ z. was || z) (f ∙ sym (l up).told)
@@ -235,26 +240,26 @@ module _ {V : Type 0} (m : Algebra V) where
           let one : count < count + 1 = omega arith in
           let n : length (take count row) ≡ count = length-take count row ∙ omega arith in
           let a = drop_more row count carry room in
-          let b = drop_more row0 count carry (omega (arith, end.size)) in
-          let ahead = end.ahead in
+          let b = drop_more row0 count carry (omega (arith, size)) in
+          let kept = ahead in
           let tails : drop (count + 1) row ≡ drop (count + 1) row0 = cc in
           record {
             next_in = omega arith;
             grows = omega arith;
-            bound = omega (arith, end.size);
-            lengths = λ up. take_more_set row count carry room ∙ sym (take_all (length row0) (take count row ++ carry ∷ []) (omega (arith, end.size, length-append (take count row) (carry ∷ [])))) ∙ sym (all_of up);
+            bound = omega (arith, size);
+            lengths = λ up. take_more_set row count carry room ∙ sym (take_all (length row0) (take count row ++ carry ∷ []) (omega (arith, size, length-append (take count row) (carry ∷ [])))) ∙ sym (all_of up);
             rest = drop-set-lt (count + 1) row count carry one ∙ tails;
-            flag = λ up. sym (or_true was) ∙ flagged up true (sym (ap (λ b. ltb at count || b) (lt-ltb count (length row0) (omega (arith, end.size))) ∙ or_true (ltb at count)));
+            flag = λ up. sym (or_true was) ∙ flagged up true (sym (ap (λ b. ltb at count || b) (lt-ltb count (length row0) (omega (arith, size))) ∙ or_true (ltb at count)));
           }
 
-      pub placed_full : length row ≤ count → (changed : Bool) → changed ≡ (was || ltb at count) → RowPlaced m row0 count was x row count changed at
-      placed_full full changed told =
-          let n : length (take count row) ≡ length row0 = length-take count row ∙ omega (arith, end.size) in
+      pub placed_full : length row ≤ count → RowPlaced m row0 count was x row count (was || ltb at count) at
+      placed_full full =
+          let n : length (take count row) ≡ length row0 = length-take count row ∙ omega (arith, size) in
           record {
             next_in = omega arith;
             grows = omega arith;
             bound = fits;
             lengths = λ up. sym (all_of up ∙ take_at (take count row) (carry ∷ []) (length row0) n);
-            rest = end.ahead;
-            flag = λ up. told ∙ flagged up (ltb at count) (sym (ap (λ b. ltb at count || b) (le-ltb count (length row0) (omega (arith, end.size))) ∙ or_false (ltb at count)));
+            rest = ahead;
+            flag = λ up. flagged up (ltb at count) (sym (ap (λ b. ltb at count || b) (le-ltb count (length row0) (omega (arith, size))) ∙ or_false (ltb at count)));
           }

@@ -1,16 +1,12 @@
 -- What ranking the nodes keeps.
-use Rattle.std.proofs.Common.{◌≡◌, ℕ, zero, suc, ◌+◌, ◌-◌, ◌<◌, ◌≤◌, ltb, List, [], ◌∷◌, length, get_or, set, replicate, Some, None, sym, refl, ap, ◌∙◌, subst, inl, inr, mul-le-mul_right, add-one, arith, length-set}
-use Rattle.std.proofs.lemmas.List.{get_or-set_same, get_or-set_other, get_or_read}
-use Rattle.std.proofs.lemmas.Bool.{cases_eq, lt-ltb, cond-true}
+use Rattle.std.proofs.Common.{◌≡◌, ℕ, zero, suc, ◌+◌, ◌-◌, ◌<◌, ◌≤◌, Bool, true, false, eqb, List, [], ◌∷◌, length, get_or, take, set, replicate, sym, refl, ap, ◌∙◌, subst, inl, inr, add-one, arith, length-set, length-take}
+use Rattle.std.proofs.lemmas.List.{get_or-set_same, get_or-set_other, get_or-take}
+use Rattle.std.specs.List.{IsAnyAnswer}
+use Rattle.std.proofs.lemmas.Bool.{cases_eq, eqb-true, eqb-false}
 use Rattle.measure.specs.Algebra.{Algebra}
 use Rattle.walks.specs.Networks.{Network}
-use Rattle.sweeps.specs.Tables.{start_of, count_of, InOrder}
-use Rattle.sweeps.specs.Nodes.{Shape}
-use Rattle.sweeps.specs.Ranks.{left, first_length_of, Blocked, Free, Climbs, Stuck, Scanned}
-use Rattle.sweeps.proofs.Working.{row_end}
-
-pub first_in : (n k size j : ℕ) (counts : List ℕ) → Shape n k size counts → 1 ≤ k → 1 ≤ j → j ≤ n → start_of k j < size
-first_in n k size j counts shape some one le = omega (arith, row_end k j one, mul-le-mul_right k le, shape.rows)
+use Rattle.sweeps.specs.Tables.{InOrder}
+use Rattle.sweeps.specs.Ranks.{left, Blocked, Free, Climbs, Stuck, Verdict}
 
 left_set : (rs : List ℕ) (i r : ℕ) → i < length rs → get_or rs i 0 ≡ 0 → left rs ≡ suc (left (set rs i (suc r)))
 left_set [] i r lt e = absurd (omega arith)
@@ -18,10 +14,6 @@ left_set (zero ∷ rs) zero r lt e = refl
 left_set (suc x ∷ rs) zero r lt e = absurd (omega arith)
 left_set (zero ∷ rs) (suc i) r lt e = ap suc (left_set rs i r (omega arith) e)
 left_set (suc x ∷ rs) (suc i) r lt e = left_set rs i r (omega arith) e
-
-pub first_some : {V : Type 0} (m : Algebra V) (k : ℕ) (values : List V) (counts : List ℕ) (j : ℕ) (x : V) → ¬ (count_of counts j ≡ 0) → x ≡ get_or values (start_of k j) x → start_of k j < length values → Some x ≡ first_length_of m k values counts j
-first_some m k values counts j x held read lt =
-    ap Some (get_or_read values (start_of k j) x lt read m.null) ∙ sym (cond-true (ltb 0 (count_of counts j)) (Some (get_or values (start_of k j) m.null)) None (lt-ltb 0 (count_of counts j) (omega arith)))
 
 module _ {V : Type 0} (m : Algebra V) (net : Network V) (k : ℕ) (values : List V) (counts : List ℕ) where
   pub climbs_more : InOrder m net → (ranks : List ℕ) (total i : ℕ) → i < length ranks → get_or ranks i 0 ≡ 0 → Climbs m net k values counts ranks total → Free m net k values counts ranks (i + 1) → Climbs m net k values counts (set ranks i (total + 1)) (total + 1)
@@ -61,9 +53,6 @@ module _ {V : Type 0} (m : Algebra V) (net : Network V) (k : ℕ) (values : List
     pub grows : ranked ≤ total
     pub still : total ≡ ranked → Stuck m net k values counts ranks i
 
-  pub part_none : (ranked : ℕ) (ranks : List ℕ) → Climbs m net k values counts ranks ranked → Part ranked ranks ranked 0
-  part_none ranked ranks h = record { climbs = h; grows = omega arith; still = λ e i lt z. absurd (omega arith) }
-
   part_stuck : (ranked : ℕ) (ranks : List ℕ) (total i : ℕ) → Part ranked ranks total i → (get_or ranks i 0 ≡ 0 → Blocked m net k values counts ranks (i + 1)) → Part ranked ranks total (i + 1)
   part_stuck ranked ranks total i h here = record {
     climbs = h.climbs;
@@ -83,8 +72,14 @@ module _ {V : Type 0} (m : Algebra V) (net : Network V) (k : ℕ) (values : List
   pub part_free : InOrder m net → (ranked : ℕ) (ranks : List ℕ) (total i : ℕ) → i < length ranks → get_or ranks i 0 ≡ 0 → Part ranked ranks total i → Free m net k values counts ranks (i + 1) → Part ranked (set ranks i (total + 1)) (total + 1) (i + 1)
   part_free order ranked ranks total i lt none h f = record { climbs = climbs_more order ranks total i lt none h.climbs f; grows = omega (arith, h.grows); still = λ e. absurd (omega (arith, h.grows)) }
 
-  pub part_all : (ranked : ℕ) (ranks : List ℕ) (total i : ℕ) → i ≡ net.nodes → Part ranked ranks total i → Scanned m net k values counts ranked ranks total
-  part_all ranked ranks total i e h = record { climbs = h.climbs; grows = h.grows; still = λ z. subst (Stuck m net k values counts ranks) e (h.still z) }
+  -- what looking for a node that is not ranked answers
+  pub verdict_of : (ranks : List ℕ) → net.nodes ≤ length ranks → (r : Bool) → IsAnyAnswer (λ y b. eqb y 0 ≡ b) (take net.nodes ranks) r → Verdict m net k values counts ranks r
+  verdict_of ranks room true h =
+      let lt : h.0 < net.nodes = omega (arith, h.1, length-take net.nodes ranks) in
+      (h.0, lt, sym (get_or-take net.nodes ranks h.0 0 lt) ∙ eqb-true _ 0 (h.2 0))
+  verdict_of ranks room false h = λ i lt.
+      let ne = eqb-false _ 0 (h i 0 (omega arith) (omega (arith, length-take net.nodes ranks))) in
+      omega (arith, get_or-take net.nodes ranks i 0 lt)
 
 left_none : (n : ℕ) → left (replicate n 0) ≡ n
 left_none zero = refl

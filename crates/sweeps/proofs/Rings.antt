@@ -2,8 +2,8 @@
 -- lags after pass N means refusal.
 use Rattle.std.proofs.Common.{◌≡◌, ℕ, suc, ◌+◌, ◌-◌, ◌^◌, ◌<◌, ◌≤◌, Bool, true, false, cond, ltb, List, ◌∷◌, length, get_or, take, drop, Some, None, Ordering, Less, Equal, Greater, sym, refl, ap, ◌∙◌, subst, inl, mul-le-mul_right, arith, length-take}
 use Rattle.std.proofs.lemmas.List.{drop_more}
-use Rattle.std.proofs.lemmas.Bool.{and_parts, and_from, ltb-true, ltb-false, lt-ltb, le-ltb, le-leb, cond-true, false≢true}
-use Rattle.std.specs.Ordering.{is_lt}
+use Rattle.std.proofs.lemmas.Bool.{ltb-true, ltb-false, lt-ltb, le-ltb, le-leb, cond-true, false≢true}
+use Rattle.std.specs.Ordering.{is_eq, is_lt}
 use Rattle.measure.specs.Algebra.{Algebra, Laws, Joinable, joined}
 use Rattle.walks.specs.Networks.{Network, Open}
 use Rattle.walks.specs.Circuits.{NullCircuit}
@@ -16,22 +16,15 @@ use Rattle.walks.proofs.Solving.{passes, joins, firsts}
 use Rattle.walks.proofs.Marking.{nulls_told}
 use Rattle.walks.proofs.Tight.{head_once}
 use Rattle.sweeps.specs.Tables.{start_of, cells, count_of, InOrder, Whether}
-use Rattle.sweeps.specs.Places.{is_same}
 use Rattle.sweeps.specs.Passes.{Bounds, RowsFill, AtRest}
-use Rattle.sweeps.specs.Firsts.{told, set_against, compared_over, over_at, Lagging}
-use Rattle.sweeps.specs.Ranks.{first_length_of, comes_to, links, tight_at, rank_of, Ranked}
+use Rattle.sweeps.specs.Firsts.{first_length_of, told, set_against, compared_over, over_at, Lagging}
+use Rattle.sweeps.specs.Ranks.{tight_at, rank_of, Ranked}
 use Rattle.sweeps.proofs.Working.{cell_of, cells_long}
 use Rattle.sweeps.proofs.Noding.{formed_of}
-use Rattle.sweeps.proofs.Placing.{tells_same}
 
 pub within_of : {V : Type 0} (m : Algebra V) (net : Network V) (k s : ℕ) → Bounds net.nodes k s → InOrder m net → Within m net k s
 within_of m net k s bounds order =
     record { formed = formed_of m net order; nodes_high = bounds.nodes_high; k_low = bounds.k_low; k_high = bounds.k_high; s_low = bounds.s_low; s_high = bounds.s_high }
-
-links_tell : {V : Type 0} (m : Algebra V) (x y z : V) (p q : Bool) → links m x (cond p (Some y) None) (cond q (Some z) None) ≡ true → (p ≡ true) × (q ≡ true) × (comes_to m (joined m y x) z ≡ true)
-links_tell m x y z true true h = (refl, refl, h)
-links_tell m x y z true false h = absurd (false≢true h)
-links_tell m x y z false q h = absurd (false≢true h)
 
 over_tell : {V : Type 0} (m : Algebra V) (test : Ordering → Bool) (x y z : V) (o p q : Bool) → told test (cond o (compared_over m x (cond p (Some y) None) (cond q (Some z) None)) None) ≡ true
     → (o ≡ true) × (p ≡ true) × (q ≡ true) × (told test (set_against m (joined m y x) z) ≡ true)
@@ -39,6 +32,11 @@ over_tell m test x y z true true true h = (refl, refl, refl, h)
 over_tell m test x y z true true false h = absurd (false≢true h)
 over_tell m test x y z true false q h = absurd (false≢true h)
 over_tell m test x y z false p q h = absurd (false≢true h)
+
+is_equal : (o : Ordering) → is_eq o ≡ true → o ≡ Equal
+is_equal Less h = absurd (false≢true h)
+is_equal Equal h = refl
+is_equal Greater h = absurd (false≢true h)
 
 is_less : (o : Ordering) → is_lt o ≡ true → o ≡ Less
 is_less Less h = refl
@@ -101,16 +99,8 @@ module _ {V : Type 0} {m : Algebra V} (laws : Laws m) (net : Network V) (k s : �
 
   test_tight : (a : ℕ) → 1 ≤ a → a ≤ net.arcs → tight_at m net k v c a ≡ true → Tight m net t a
   test_tight a low high h =
-      let q = order.proper a low high in
-      let parts = and_parts (net.is_open a) (links m (net.arc_length a) (first_length_of m k v c (net.start a)) (first_length_of m k v c (net.end a))) h in
-      let o = open_arc a low high parts.0 in
-      let told = links_tell m (net.arc_length a) (head_of (net.start a)) (head_of (net.end a)) (ltb 0 (count_of c (net.start a))) (ltb 0 (count_of c (net.end a))) parts.1 in
-      let hs = head_row (net.start a) q.start_low q.start_high (ltb-true 0 (count_of c (net.start a)) told.0) in
-      let he = head_row (net.end a) q.end_low q.end_high (ltb-true 0 (count_of c (net.end a)) told.1) in
-      let is : comes_to m (Some (m.plus (head_of (net.start a)) (net.arc_length a))) (head_of (net.end a)) ≡ true =
-      ap (λ f. comes_to m (cond f (Some (m.plus (head_of (net.start a)) (net.arc_length a))) None) (head_of (net.end a))) (sym (le-leb (m.magnitude (head_of (net.start a)) + m.magnitude (net.arc_length a)) (2 ^ 62) (fits a (head_of (net.start a)) o hs)))
-      ∙ told.2 in
-      record { is_open = o; there = head_of (net.start a); here = head_of (net.end a); start = hs; end = he; sum = laws.same _ _ (tells_same _ (sym is)) }
+      let f = found is_eq a low high h in
+      record { is_open = f.is_open; there = head_of (net.start a); here = head_of (net.end a); start = f.start; end = f.end; sum = laws.same _ _ (is_equal _ f.holds) }
 
   -- an arc that lags after pass N
   pub lagging_refused : net.nodes ≤ p → Lagging m net k v c → outcome m net k s ≡ refused
@@ -135,11 +125,11 @@ module _ {V : Type 0} {m : Algebra V} (laws : Laws m) (net : Network V) (k s : �
       let ez : h.here ≡ head_of j = head_once m net t j h.here (head_of j) h.end he in
       let sum : m.plus (head_of i) x ≡ head_of j = ap (λ w. m.plus w x) (sym ey) ∙ h.sum ∙ ez in
       let equal : m.compare (m.plus (head_of i) x) (head_of j) ≡ Equal = ap (λ w. m.compare w (head_of j)) sum ∙ laws.same_self (head_of j) in
-      and_from (net.is_open a) (links m x (first_length_of m k v c i) (first_length_of m k v c j)) h.is_open.marked
-      (ap (λ o. links m x o (first_length_of m k v c j)) (first_is i held_i)
-      ∙ ap (λ o. links m x (Some (head_of i)) o) (first_is j held_j)
-      ∙ ap (λ f. comes_to m (cond f (Some (m.plus (head_of i) x)) None) (head_of j)) (le-leb (m.magnitude (head_of i) + m.magnitude x) (2 ^ 62) (fits a (head_of i) h.is_open hs))
-      ∙ ap is_same equal)
+      ap (λ b. told is_eq (cond b (compared_over m x (first_length_of m k v c i) (first_length_of m k v c j)) None)) h.is_open.marked
+      ∙ ap (λ o. told is_eq (compared_over m x o (first_length_of m k v c j))) (first_is i held_i)
+      ∙ ap (λ o. told is_eq (compared_over m x (Some (head_of i)) o)) (first_is j held_j)
+      ∙ ap (λ f. told is_eq (set_against m (cond f (Some (m.plus (head_of i) x)) None) (head_of j))) (le-leb (m.magnitude (head_of i) + m.magnitude x) (2 ^ 62) (fits a (head_of i) h.is_open hs))
+      ∙ ap is_eq equal
 
 module _ {V : Type 0} {m : Algebra V} (laws : Laws m) (net : Network V) (k s : ℕ) (bounds : Bounds net.nodes k s) (order : InOrder m net) (p : ℕ) (v : List V) (c : List ℕ) (rest : AtRest m net k s p v c) where
   in_time : p ≤ last_pass m net k s

@@ -1,7 +1,7 @@
 -- What the passes of a solve keep.
-use Rattle.std.proofs.Common.{◌≡◌, ℕ, suc, ◌+◌, ◌-◌, ◌*◌, ◌^◌, ◌<◌, ◌≤◌, Bool, true, false, not, ◌⊎◌, List, [], ◌∷◌, length, get_or, take, drop, set, replicate, sym, refl, ap, ◌∙◌, subst, inl, inr, mul-le-mul_right, mul-le-mul, add-one, arith, length-set}
+use Rattle.std.proofs.Common.{◌≡◌, ℕ, zero, suc, ◌+◌, ◌-◌, ◌*◌, ◌%◌, ◌^◌, ◌<◌, ◌≤◌, Bool, true, false, not, eqb, ◌⊎◌, List, [], ◌∷◌, length, get_or, take, drop, set, replicate, sym, refl, ap, ◌∙◌, subst, inl, inr, mul-le-mul_right, mul-le-mul, add-one, arith, length-set}
 use Rattle.std.proofs.lemmas.List.{get_or-set_same, get_or-set_other, get_or-replicate, get_or_past, length-replicate, drop-replicate, take-replicate}
-use Rattle.std.proofs.lemmas.Bool.{cases_eq, cases_lt}
+use Rattle.std.proofs.lemmas.Bool.{cases_eq, cases_lt, eq-eqb, ne_eqb}
 use Rattle.measure.specs.Algebra.{Algebra, Laws}
 use Rattle.walks.specs.Networks.{Network, WellFormed}
 use Rattle.walks.specs.Method.{odd, put, pass, rows}
@@ -12,6 +12,13 @@ use Rattle.walks.proofs.Ends.{is_settled, is_refused}
 use Rattle.sweeps.specs.Tables.{start_of, cells, Cleared}
 use Rattle.sweeps.specs.Passes.{Bounds, RowsFill, Ready, Gone, Passed, Tells, AtRest}
 use Rattle.sweeps.proofs.Working.{row_end}
+
+pub odd_is : (n : ℕ) → eqb (n % 2) 1 ≡ odd n
+odd_is zero = refl
+odd_is (suc n) = elim (cases_eq (n % 2) 1) [
+  | inl e ↦ ne_eqb (suc n % 2) 1 (omega arith) ∙ ap not (sym (eq-eqb (n % 2) 1 e) ∙ odd_is n)
+  | inr ne ↦ eq-eqb (suc n % 2) 1 (omega arith) ∙ ap not (sym (ne_eqb (n % 2) 1 ne) ∙ odd_is n)
+]
 
 pub cleared_as : {V : Type 0} (m : Algebra V) (size size' n n' : ℕ) (v : List V) (c : List ℕ) → size ≡ size' → n ≡ n' → Cleared m size n v c → Cleared m size' n' v c
 cleared_as m size size' n n' v c e f h = record { null_values = h.null_values ∙ ap (λ z. replicate z m.null) e; no_counts = h.no_counts ∙ ap (λ z. replicate z 0) f }
@@ -52,8 +59,7 @@ module _ {V : Type 0} (m : Algebra V) (net : Network V) (k s : ℕ) (bounds : Bo
     }
 
   -- where a solve stands after some passes
-  pub record Stands (v : List V) (c : List ℕ) (done : ℕ) (down : Bool) : Type 0 where
-    pub turn : down ≡ odd (suc done)
+  pub record Stands (v : List V) (c : List ℕ) (done : ℕ) : Type 0 where
     pub are : RowsFill m net.nodes k v c (rows m net k s done)
     pub ready : Ready m k (done * net.nodes) (rows m net k s done)
     pub loud : (q : ℕ) → 2 ≤ q → q ≤ done → ¬ Unchanged net (rows m net k s) q
@@ -65,30 +71,28 @@ module _ {V : Type 0} (m : Algebra V) (net : Network V) (k s : ℕ) (bounds : Bo
       omega (arith, bounds.nodes_high)
 
   module _ (laws : Laws m) (formed : WellFormed m net) where
-    pub stands_none : (v : List V) (c : List ℕ) → v ≡ replicate (net.nodes * k) m.null → c ≡ set (replicate net.nodes 0) (s - 1) 1 → Stands v c 0 true
+    pub stands_none : (v : List V) (c : List ℕ) → v ≡ replicate (net.nodes * k) m.null → c ≡ set (replicate net.nodes 0) (s - 1) 1 → Stands v c 0
     stands_none v c blank one =
         let run : Run m net k s (rows m net k s) = rows_run laws net k s formed bounds.k_low in
         record {
-          turn = refl;
           are = start_fill v c blank one;
           ready = record { up = λ j. (run.start j).ascending; short = λ j. (run.start j).short; light = λ j x i. let e = ap m.magnitude ((run.start j).from x i).1 in omega (arith, laws.null_magnitude) };
           loud = λ q two le z. omega arith;
         }
 
-    module _ (v v' : List V) (c c' : List ℕ) (done : ℕ) (down changed : Bool) (lt : done < 2 * (net.nodes * k + 1)) (h : Stands v c done down) (w : Passed m net k down v c v' c' changed) where
+    module _ (v v' : List V) (c c' : List ℕ) (done : ℕ) (down changed : Bool) (lt : done < 2 * (net.nodes * k + 1)) (turn : down ≡ odd (suc done)) (h : Stands v c done) (w : Passed m net k down v c v' c' changed) where
       gone : Gone m net.nodes k (done * net.nodes + net.nodes) (rows m net k s done) (rows m net k s (suc done)) v' c' changed
       gone =
-          subst (λ d. Gone m net.nodes k (done * net.nodes + net.nodes) (rows m net k s done) (pass m net k s d (rows m net k s done)) v' c' changed) h.turn
+          subst (λ d. Gone m net.nodes k (done * net.nodes + net.nodes) (rows m net k s done) (pass m net k s d (rows m net k s done)) v' c' changed) turn
           (w.goes (rows m net k s done) (done * net.nodes) s (room done lt) h.ready h.are)
 
       still_loud : (done + 1 < 2) ⊎ (changed ≡ true) → 2 ≤ suc done → ¬ Unchanged net (rows m net k s) (suc done)
       still_loud (inl l) two z = omega arith
       still_loud (inr e) two z = subst (λ f. Tells f (Unchanged net (rows m net k s) (suc done))) e gone.tells z
 
-      pub stands_more : (done' : ℕ) (down' : Bool) → done' ≡ done + 1 → down' ≡ not down → (done + 1 < 2) ⊎ (changed ≡ true) → Stands v' c' done' down'
-      stands_more done' down' e f why =
-          subst (λ d. Stands v' c' d down') (sym (e ∙ add-one done)) (record {
-            turn = f ∙ ap not h.turn;
+      pub stands_more : (done' : ℕ) → done' ≡ done + 1 → (done + 1 < 2) ⊎ (changed ≡ true) → Stands v' c' done'
+      stands_more done' e why =
+          subst (Stands v' c') (sym (e ∙ add-one done)) (record {
             are = gone.are;
             ready = subst (λ b. Ready m k b (rows m net k s (suc done))) (omega arith) gone.ready;
             loud = λ q two le z. elim (cases_eq q (suc done)) [
@@ -109,5 +113,5 @@ module _ {V : Type 0} (m : Algebra V) (net : Network V) (k s : ℕ) (bounds : Bo
             are = gone.are;
           })
 
-    pub stands_over : (v : List V) (c : List ℕ) (done : ℕ) (down : Bool) → 2 * (net.nodes * k + 1) ≤ done → Stands v c done down → outcome m net k s ≡ refused
-    stands_over v c done down le h = is_refused laws net k s (λ q two small. h.loud q two (omega arith))
+    pub stands_over : (v : List V) (c : List ℕ) (done : ℕ) → 2 * (net.nodes * k + 1) ≤ done → Stands v c done → outcome m net k s ≡ refused
+    stands_over v c done le h = is_refused laws net k s (λ q two small. h.loud q two (omega arith))

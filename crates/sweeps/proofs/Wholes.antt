@@ -1,6 +1,7 @@
 -- From tables of exactly the rows' sizes to the caller's.
-use Rattle.std.proofs.Common.{◌≡◌, ℕ, ◌+◌, ◌-◌, ◌*◌, ◌≤◌, List, ◌++◌, length, take, drop, replicate, None, Ok, Err, Result, sym, refl, ap, ◌∙◌, subst, mul-le-mul_right, arith, length-take}
+use Rattle.std.proofs.Common.{◌≡◌, ℕ, ◌+◌, ◌-◌, ◌*◌, ◌≤◌, List, ◌++◌, length, take, drop, replicate, Option, Some, None, Ok, Err, Result, sym, refl, ap, ◌∙◌, subst, mul-le-mul_right, arith, length-take}
 use Rattle.std.proofs.lemmas.List.{get_or-take, drop-take, take-take, take_at}
+use Rattle.std.specs.Option.{ok_or}
 use Rattle.measure.specs.Algebra.{Algebra}
 use Rattle.walks.specs.Networks.{Network}
 use Rattle.walks.specs.Rows.{Table}
@@ -8,9 +9,9 @@ use Rattle.sweeps.specs.declared.Arc.{Arc}
 use Rattle.sweeps.specs.declared.Solved.{Solved}
 use Rattle.sweeps.specs.declared.refusal.Refusal.{Refusal}
 use Rattle.sweeps.specs.declared.refusal.Refusal.TheVariants.{NegativeCircuit}
-use Rattle.sweeps.specs.Tables.{network, InOrder, start_of, cells, count_of, RowsHeld, Cleared}
-use Rattle.sweeps.specs.Passes.{RowsFill}
-use Rattle.sweeps.specs.Answers.{solve_verdict, Answered, Meant, SolvedAs, RefusedAs, Solves}
+use Rattle.sweeps.specs.Tables.{network, InOrder, start_of, cells, count_of, RowsHeld}
+use Rattle.sweeps.specs.Passes.{RowsFill, Filled}
+use Rattle.sweeps.specs.Answers.{solve_verdict, Answered, Meant, SolvedAs, Solves}
 use Rattle.sweeps.proofs.Working.{row_end}
 
 pub held_of : {V : Type 0} (m : Algebra V) (n k : ℕ) (v : List V) (c : List ℕ) (t : Table V) → RowsFill m n k v c t → RowsHeld m n k v c t
@@ -62,10 +63,8 @@ module _ {V : Type 0} (m : Algebra V) (n k s : ℕ) (arcs : List Arc) (lengths :
     meant = λ order. subst (λ o. Meant m n k s arcs lengths values counts o r (v ++ past) (c ++ past_c)) (sym judged) (meant order);
   }
 
-  pub solves_some : (found : Solved) → SolvedAs m (network m n arcs lengths) k s found v c → Solves m n k s arcs lengths values counts (Ok found) (v ++ past) (c ++ past_c)
-  solves_some found h =
+  pub solves : (r : Option Solved) → Filled m (network m n arcs lengths) k s r v c → Solves m n k s arcs lengths values counts (ok_or r NegativeCircuit) (v ++ past) (c ++ past_c)
+  solves (Some found) h =
       solved (Ok found) tt (λ order. solved_whole m (network m n arcs lengths) k s found (v ++ past) (c ++ past_c)
       (subst (λ z. SolvedAs m (network m n arcs lengths) k s found z (take n (c ++ past_c))) (sym rows_part) (subst (λ z. SolvedAs m (network m n arcs lengths) k s found v z) (sym counts_part) h)))
-
-  pub solves_none : Cleared m (n * k) n v c × (InOrder m (network m n arcs lengths) → RefusedAs m (network m n arcs lengths) k s) → Solves m n k s arcs lengths values counts (Err NegativeCircuit) (v ++ past) (c ++ past_c)
-  solves_none h = solved (Err NegativeCircuit) (refl, record { null_values = rows_part ∙ h.0.null_values; no_counts = counts_part ∙ h.0.no_counts }) h.1
+  solves None h = solved (Err NegativeCircuit) (refl, record { null_values = rows_part ∙ h.0.null_values; no_counts = counts_part ∙ h.0.no_counts }) h.1

@@ -1,11 +1,11 @@
 -- How first lengths compare over an arc.
-use Rattle.std.specs.Prelude.{◌≡◌, ℕ, ◌≤◌, Bool, true, false, cond, List, Some, None, Option}
+use Rattle.std.specs.Prelude.{◌≡◌, ℕ, ◌≤◌, Bool, true, false, cond, List, Some, None, Option, nat_lt, slice_index_or}
 use Rattle.std.specs.declared.cmp.Ordering.{Ordering}
 use Rattle.std.specs.Ordering.{is_lt}
 use Rattle.measure.specs.Algebra.{Algebra, joined}
 use Rattle.walks.specs.Networks.{Network}
 use Rattle.sweeps.specs.declared.Arc.{Arc}
-use Rattle.sweeps.specs.Ranks.{first_length_of}
+use Rattle.sweeps.specs.Tables.{start_of, count_of}
 
 -- there is an order, and it is one that the test takes
 abbrev pub told : (Ordering → Bool) → Option Ordering → Bool
@@ -24,9 +24,13 @@ module _ {V : Type 0} (m : Algebra V) where
   compared_over x (Some y) (Some z) = set_against (joined m y x) z
 
   module _ (k : ℕ) (values : List V) (counts : List ℕ) where
+    -- the first length of node j, as the tables hold it
+    abbrev pub first_length_of : ℕ → Option V
+    first_length_of j = cond (nat_lt 0 (count_of counts j)) (Some (slice_index_or values (start_of k j) m.null)) None
+
     -- how what comes over an open arc compares with the first length of its end
     abbrev pub over_arc : Arc → V → Option Ordering
-    over_arc arc x = cond arc.«open» (compared_over x (first_length_of m k values counts arc.start) (first_length_of m k values counts arc.end)) None
+    over_arc arc x = cond arc.«open» (compared_over x (first_length_of arc.start) (first_length_of arc.end)) None
 
 module _ {V : Type 0} (m : Algebra V) (net : Network V) (k : ℕ) (values : List V) (counts : List ℕ) where
   abbrev pub over_at : ℕ → Option Ordering

@@ -4,6 +4,7 @@ pub mod Tables
 pub mod Answers
 pub mod Places
 pub mod Nodes
+pub mod Inwards
 pub mod Passes
 pub mod Ranks
 pub mod Firsts

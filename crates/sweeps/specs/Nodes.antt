@@ -8,6 +8,11 @@ use Rattle.sweeps.specs.declared.Arc.{Arc}
 use Rattle.sweeps.specs.Tables.{network, InOrder, start_of, cells, count_of, row_of}
 use Rattle.sweeps.specs.Places.{fresh}
 
+-- j is one of n nodes
+pub record IsNode (n j : ℕ) : Type 0 where
+  pub low : 1 ≤ j
+  pub high : j ≤ n
+
 -- an arc leads from one of n nodes to another, and is not too long
 pub record FitsArc {V : Type 0} (m : Algebra V) (n : ℕ) (arc : Arc) (x : V) : Type 0 where
   pub start_low : 1 ≤ arc.start

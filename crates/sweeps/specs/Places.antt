@@ -1,15 +1,9 @@
 -- Placing a length in a row of cells.
 use Rattle.std.specs.Prelude.{◌≡◌, ℕ, ◌-◌, ◌≤◌, Bool, true, false, cond, ◌&&◌, ◌||◌, List, [], ◌∷◌, length, take, drop, nat_lt, slice_index_or}
-use Rattle.std.specs.declared.cmp.Ordering.{Ordering}
+use Rattle.std.specs.Ordering.{is_gt}
 use Rattle.measure.specs.Algebra.{Algebra}
 use Rattle.walks.specs.Rows.{Ascending}
 use Rattle.walks.specs.Method.{choose, place}
-
-abbrev pub is_after : Ordering → Bool
-is_after o = choose o false false true
-
-abbrev pub is_same : Ordering → Bool
-is_same o = choose o false true false
 
 module _ {V : Type 0} (m : Algebra V) where
   -- whether placing x changes the row, which has room for another value or not
@@ -19,7 +13,7 @@ module _ {V : Type 0} (m : Algebra V) where
 
   -- the first cell to compare x with: the one at `from` if x comes after the cell before it, else the very first
   abbrev pub first_cell : List V → ℕ → V → ℕ
-  first_cell row from x = cond (nat_lt 0 from && is_after (m.compare x (slice_index_or row (from - 1) x))) from 0
+  first_cell row from x = cond (nat_lt 0 from && is_gt (m.compare x (slice_index_or row (from - 1) x))) from 0
 
   -- a row of cells, whose first `count` held lengths, once x is placed in it; what it holds then is said of lengths that ascended
   pub record RowPlaced (row : List V) (count : ℕ) (was : Bool) (x : V) (row' : List V) (count' : ℕ) (changed : Bool) (next : ℕ) : Type 0 where

@@ -1,10 +1,10 @@
 -- Nodes ranked along the arcs over which first lengths come to first lengths.
-use Rattle.std.specs.Prelude.{◌≡◌, ℕ, zero, suc, ◌+◌, ◌-◌, ◌<◌, ◌≤◌, Bool, true, false, cond, ◌&&◌, List, [], ◌∷◌, length, Some, None, Option, nat_lt, slice_index, slice_index_or}
-use Rattle.measure.specs.Algebra.{Algebra, joined}
+use Rattle.std.specs.Prelude.{◌≡◌, ℕ, zero, suc, ◌+◌, ◌-◌, ◌<◌, ◌≤◌, Bool, true, false, List, [], ◌∷◌, length, slice_index}
+use Rattle.std.specs.Ordering.{is_eq}
+use Rattle.measure.specs.Algebra.{Algebra}
 use Rattle.walks.specs.Networks.{Network}
 use Rattle.sweeps.specs.declared.Arc.{Arc}
-use Rattle.sweeps.specs.Tables.{start_of, count_of}
-use Rattle.sweeps.specs.Places.{is_same}
+use Rattle.sweeps.specs.Firsts.{told, over_arc, over_at}
 
 -- how many are not ranked
 abbrev pub left : List ℕ → ℕ
@@ -15,28 +15,13 @@ left (suc r ∷ rs) = left rs
 abbrev pub rank_of : List ℕ → ℕ → ℕ
 rank_of ranks j = slice_index ranks (j - 1)
 
-module _ {V : Type 0} (m : Algebra V) where
-  abbrev pub comes_to : Option V → V → Bool
-  comes_to (Some y) z = is_same (m.compare y z)
-  comes_to None z = false
-
-  abbrev pub links : V → Option V → Option V → Bool
-  links x None o = false
-  links x (Some y) None = false
-  links x (Some y) (Some z) = comes_to (joined m y x) z
-
-  module _ (k : ℕ) (values : List V) (counts : List ℕ) where
-    -- the first length of node j, as the tables hold it
-    abbrev pub first_length_of : ℕ → Option V
-    first_length_of j = cond (nat_lt 0 (count_of counts j)) (Some (slice_index_or values (start_of k j) m.null)) None
-
-    -- the first length at the arc's end comes over the arc
-    abbrev pub is_tight : Arc → V → Bool
-    is_tight arc x = arc.«open» && links x (first_length_of arc.start) (first_length_of arc.end)
+-- the first length at the arc's end comes over the arc
+abbrev pub is_tight : {V : Type 0} → Algebra V → ℕ → List V → List ℕ → Arc → V → Bool
+is_tight m k values counts arc x = told is_eq (over_arc m k values counts arc x)
 
 module _ {V : Type 0} (m : Algebra V) (net : Network V) (k : ℕ) (values : List V) (counts : List ℕ) where
   abbrev pub tight_at : ℕ → Bool
-  tight_at a = net.is_open a && links m (net.arc_length a) (first_length_of m k values counts (net.start a)) (first_length_of m k values counts (net.end a))
+  tight_at a = told is_eq (over_at m net k values counts a)
 
   -- a tight arc leads to node j from a node that is not ranked
   pub record Blocked (ranks : List ℕ) (j : ℕ) : Type 0 where

@@ -1,71 +1,80 @@
 // First lengths, and what comes over the arcs to them.
 ghost use Rattle.std.specs.Prelude.{◌≡◌, ◌≤◌, length};
 ghost use Rattle.std.specs.Ordering.{is_lt};
-ghost use Rattle.sweeps.specs.Tables.{network, InOrder};
-ghost use Rattle.sweeps.specs.Nodes.{FitsArc, Shape};
-ghost use Rattle.sweeps.specs.Firsts.{told, over_arc, LaggingOr};
+ghost use Rattle.std.proofs.Props.{props};
+ghost use Rattle.sweeps.specs.Nodes.{IsNode, FitsArc, Shape};
+ghost use Rattle.sweeps.specs.Firsts.{first_length_of, told, over_arc, LaggingOr};
+ghost use Rattle.sweeps.specs.Ranks.{is_tight};
+ghost use Rattle.sweeps.specs.Inwards.{net_of};
 
 use super::Arc;
-use super::nulls::first_length;
+use super::inward::Inward;
 use measure::Measure;
 use std::cmp::Ordering;
 
-// How the first length of an arc's start, joined with the arc's, compares with the first length of its end: none if the arc is
-// closed or one of them is not there.
-fn over<M: Measure>(
-    arc: Arc,
-    x: M,
-    nodes: usize,
-    k: usize,
-    values: &[M],
-    counts: &[usize],
-) -> Option<Ordering>
-    requires shape { Shape nodes k (length values.now) counts.now }
-    requires some { 1 ≤ k }
-    requires proper { FitsArc M.Measure.algebra nodes arc x }
-    ensures { result ≡ over_arc M.Measure.algebra k values.now counts.now arc x }
-{
-    if !arc.open {
-        return None;
-    }
-    let there = first_length(arc.start as usize, nodes, k, values, counts)?;
-    let here = first_length(arc.end as usize, nodes, k, values, counts)?;
-    let y = there.join(&x)?;
-    Some(y.compare(&here))
+// The rows of a network, to be read: at most k lengths for each node.
+#[derive(Drop)]
+pub struct Rows<'a, M: Measure> {
+    pub net: &'a Inward<'a, M>,
+    pub k: usize,
+    pub values: &'a [M],
+    pub counts: &'a [usize],
+    ghost some: { 1 ≤ k },
+    ghost shape: { Shape net.now.nodes k (length values.now) counts.now } by { Prim.hlevel props },
 }
 
-// Whether an arc brings its end a length before the first one there.
-fn lags<M: Measure>(arc: Arc, x: M, nodes: usize, k: usize, values: &[M], counts: &[usize]) -> bool
-    requires shape { Shape nodes k (length values.now) counts.now }
-    requires some { 1 ≤ k }
-    requires proper { FitsArc M.Measure.algebra nodes arc x }
-    ensures { result ≡ told is_lt (over_arc M.Measure.algebra k values.now counts.now arc x) }
-{
-    match over(arc, x, nodes, k, values, counts) {
-        Some(order) => matches!(order, Ordering::Less),
-        None => false,
-    }
-}
-
-// Whether some arc does.
-pub fn lagging<M: Measure>(
-    nodes: usize,
-    k: usize,
-    arcs: &[Arc],
-    lengths: &[M],
-    values: &[M],
-    counts: &[usize],
-) -> bool
-    requires ordered { InOrder M.Measure.algebra (network M.Measure.algebra nodes arcs.now lengths.now) }
-    requires shape { Shape nodes k (length values.now) counts.now }
-    requires some { 1 ≤ k }
-    ensures { LaggingOr M.Measure.algebra (network M.Measure.algebra nodes arcs.now lengths.now) k values.now counts.now result }
-{
-    let total = arcs.len().min(lengths.len());
-    for a in 0..total {
-        if lags(arcs[a], lengths[a], nodes, k, values, counts) {
-            return true;
+impl<M: Measure> Rows<'_, M> {
+    // The first length of node j.
+    fn first(&self, j: usize) -> Option<M>
+        requires { IsNode self.now.net.now.nodes j }
+        ensures { result ≡ first_length_of M.Measure.algebra self.now.k self.now.values.now self.now.counts.now j }
+    {
+        if self.counts[j - 1] == 0 {
+            return None;
         }
+        Some(self.values[(j - 1) * self.k])
     }
-    false
+
+    // How the first length of an arc's start, joined with the arc's, compares with the first length of its end: none if the arc is
+    // closed or one of them is not there.
+    fn over(&self, arc: Arc, x: M) -> Option<Ordering>
+        requires { FitsArc M.Measure.algebra self.now.net.now.nodes arc x }
+        ensures { result ≡ over_arc M.Measure.algebra self.now.k self.now.values.now self.now.counts.now arc x }
+    {
+        if !arc.open {
+            return None;
+        }
+        let there = self.first(arc.start as usize)?;
+        let here = self.first(arc.end as usize)?;
+        let y = there.join(&x)?;
+        Some(y.compare(&here))
+    }
+
+    // Whether the first length at the arc's end comes over the arc.
+    pub fn tight(&self, arc: Arc, x: M) -> bool
+        requires { FitsArc M.Measure.algebra self.now.net.now.nodes arc x }
+        ensures { result ≡ is_tight M.Measure.algebra self.now.k self.now.values.now self.now.counts.now arc x }
+    {
+        matches!(self.over(arc, x), Some(Ordering::Equal))
+    }
+
+    // Whether an arc brings its end a length before the first one there.
+    fn lags(&self, arc: Arc, x: M) -> bool
+        requires { FitsArc M.Measure.algebra self.now.net.now.nodes arc x }
+        ensures { result ≡ told is_lt (over_arc M.Measure.algebra self.now.k self.now.values.now self.now.counts.now arc x) }
+    {
+        matches!(self.over(arc, x), Some(Ordering::Less))
+    }
+
+    // Whether some arc does.
+    pub fn lagging(&self) -> bool
+        ensures { LaggingOr M.Measure.algebra (net_of M.Measure.algebra self.now.net.now) self.now.k self.now.values.now self.now.counts.now result }
+    {
+        for (arc, x) in self.net.arcs.iter().zip(self.net.lengths) {
+            if self.lags(*arc, *x) {
+                return true;
+            }
+        }
+        false
+    }
 }

@@ -15,10 +15,8 @@ fn fits<M: Measure>(nodes: usize, arc: Arc, x: M) -> bool
 {
     let start = arc.start as usize;
     let end = arc.end as usize;
-    1 <= start
-        && start <= nodes
-        && 1 <= end
-        && end <= nodes
+    (1..=nodes).contains(&start)
+        && (1..=nodes).contains(&end)
         && start != end
         && x.magnitude() <= LONGEST
 }
@@ -27,14 +25,9 @@ fn fits<M: Measure>(nodes: usize, arc: Arc, x: M) -> bool
 pub fn in_order<M: Measure>(nodes: usize, arcs: &[Arc], lengths: &[M]) -> bool
     ensures { Whether result (InOrder M.Measure.algebra (network M.Measure.algebra nodes arcs.now lengths.now)) }
 {
-    let total = arcs.len().min(lengths.len());
     let mut last = 0;
-    for a in 0..total {
-        let arc = arcs[a];
-        if !fits(nodes, arc, lengths[a]) {
-            return false;
-        }
-        if arc.end < last {
+    for (arc, x) in arcs.iter().zip(lengths) {
+        if !fits(nodes, *arc, *x) || arc.end < last {
             return false;
         }
         last = arc.end;
@@ -49,11 +42,7 @@ pub fn index<M: Measure>(nodes: usize, arcs: &[Arc], lengths: &[M], first: &mut 
     ensures { Indexed (network M.Measure.algebra nodes arcs.now lengths.now) first.new }
 {
     let total = arcs.len().min(lengths.len());
-    let mut below = 0;
-    for j in 0..nodes + 1 {
-        while below < total && arcs[below].end as usize <= j {
-            below += 1;
-        }
-        first[j] = below;
+    for j in 0..=nodes {
+        first[j] = arcs[..total].partition_point(|arc| arc.end as usize <= j);
     }
 }

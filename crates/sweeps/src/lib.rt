@@ -3,6 +3,7 @@
 
 mod firsts;
 mod inspection;
+mod inward;
 mod nodes;
 mod nulls;
 mod order;

@@ -5,7 +5,7 @@ ghost use Rattle.sweeps.specs.Refusals.{number};
 #[derive(Clone, Copy, PartialEq, Eq, Debug)]
 pub enum Refusal {
     // the number of nodes is 0 or above 1,000
-    NodeCount,
+    NodeCount = 1,
     // an end of the arc is no node
     ArcEnd,
     // both ends of the arc agree
@@ -36,21 +36,6 @@ impl Refusal {
     pub fn number(self) -> u8
         ensures { result ≡ number self }
     {
-        match self {
-            Refusal::NodeCount => 1,
-            Refusal::ArcEnd => 2,
-            Refusal::SelfArc => 3,
-            Refusal::ArcOrder => 4,
-            Refusal::TooLong => 5,
-            Refusal::TablesFull => 6,
-            Refusal::NoSuchArc => 7,
-            Refusal::RowWidth => 8,
-            Refusal::NoSuchNode => 9,
-            Refusal::ShortTables => 10,
-            Refusal::NegativeCircuit => 11,
-            Refusal::NoSuchPlace => 12,
-            Refusal::NullCircuit => 13,
-            Refusal::ShortTraceTables => 14,
-        }
+        self as u8
     }
 }

@@ -4,11 +4,11 @@ ghost use Rattle.sweeps.specs.Tables.{network};
 ghost use Rattle.sweeps.specs.Passes.{Bounds, Filled};
 ghost use Rattle.sweeps.specs.Answers.{Solves};
 
+use super::firsts::Rows;
 use super::inspection::{in_order, index};
-use super::nulls::null_circuit;
+use super::inward::Inward;
 use super::order::Order;
 use super::orders::MOST_NODES;
-use super::settling::settle;
 use super::tables::clear;
 use super::{Arc, Refusal, Solved};
 use measure::Measure;
@@ -31,15 +31,24 @@ fn fill<M: Measure>(
         clear(values, counts);
         return None;
     }
-    let mut first = [0usize; 1001];
+    // an array, since a solve allocates nothing
+    let mut first = [0usize; MOST_NODES + 1];
     index(nodes, arcs, lengths, &mut first);
-    match settle(nodes, order, arcs, lengths, &first, values, counts) {
-        Some(passes) => {
-            let null = null_circuit(nodes, order.k, arcs, lengths, &first, values, counts);
-            Some(Solved { passes, null })
-        }
-        None => None,
-    }
+    let net = Inward {
+        nodes,
+        arcs,
+        lengths,
+        first: &first,
+    };
+    let passes = net.settle(order, values, counts)?;
+    let rows = Rows {
+        net: &net,
+        k: order.k,
+        values,
+        counts,
+    };
+    let null = rows.null_circuit();
+    Some(Solved { passes, null })
 }
 
 // Fills the rows of the network of the arc tables, and says how many passes it took and whether a null circuit is reached;
@@ -64,15 +73,13 @@ pub fn solve<M: Measure>(
     if values.len() < cells || counts.len() < nodes {
         return Err(Refusal::ShortTables);
     }
-    match fill(
+    fill(
         nodes,
         order,
         arcs,
         lengths,
-        &mut values[0..cells],
-        &mut counts[0..nodes],
-    ) {
-        Some(found) => Ok(found),
-        None => Err(Refusal::NegativeCircuit),
-    }
+        &mut values[..cells],
+        &mut counts[..nodes],
+    )
+    .ok_or(Refusal::NegativeCircuit)
 }

@@ -1,28 +1,38 @@
-use Rattle.std.proofs.Common.{suc, ◌<◌, length, refl, arith}
-use Rattle.std.proofs.lemmas.List.{get_or_read}
-use Rattle.sweeps.specs.Tables.{network}
-use Rattle.sweeps.proofs.Checking.{checked_none, checked_more, checked_all, checked_falls, fits_proper, proper_fits}
+use Rattle.std.proofs.Common.{suc, length, refl, ap, arith}
+use Rattle.std.proofs.lemmas.List.{length_push}
+use Rattle.sweeps.specs.Tables.{network, no_arc}
+use Rattle.sweeps.proofs.Sides.{sides_turn, sides_end}
+use Rattle.sweeps.proofs.Checking.{checked_more, checked_all, checked_falls, fits_proper, proper_fits}
+use Rattle.sweeps.proofs.inspection.in_order.Goals.{then-not-fits-via-then-not-fits, then-not-fits-via-else-not-fits+then-arc-last}
 use Rattle.sweeps.proofs.inspection.in_order.Goals as goal
-
-pub loop-a-init : goal.loop-a-init
-loop-a-init g c = checked_none _ _ refl
 
 pub returns-then-not-fits : goal.returns-then-not-fits
 returns-then-not-fits g c = λ order.
-    let lt : c.loop-a.a < length c.args.lengths.now = omega (arith, c.min-total.ensures) in
-    let read = get_or_read c.args.lengths.now c.loop-a.a c.index-lengths-a.result lt c.index-lengths-a.is g.M.Measure.algebra.null in
-    c.if-not-fits.ensures (proper_fits g.M.Measure.algebra c.args.nodes c.args.arcs.now c.args.lengths.now c.loop-a.a _ read (order.proper (suc c.loop-a.a) (omega arith) (omega (arith, c.min-total.ensures))))
+    let m = g.M.Measure.algebra in
+    let arcs = c.args.arcs.now in
+    let lengths = c.args.lengths.now in
+    let n = length c.loop-arc.yielded in
+    let turn = sides_turn c.into_iter-arc-iterator.ensures.into_iter_gives c.zip-arc-items.ensures.first c.iter.ensures.rest c.zip-arc-items.ensures.second.0 c.loop-arc.yielded c.loop-arc.arc-iterator c.next.new.self c.loop-arc.yielded_by (c.in-Some.arc, c.in-Some.x) c.in-Some.is c.next.ensures.steps in
+    let arc_is = turn.2 no_arc in
+    let x_is = turn.3 m.null in
+    elim c.then-not-fits.branch [
+      | then-not-fits-via-then-not-fits w ↦ w.if-not-fits.ensures (proper_fits m c.args.nodes arcs lengths n _ _ arc_is x_is (order.proper (suc n) (omega arith) (omega (arith, turn.0, turn.1))))
+      | then-not-fits-via-else-not-fits+then-arc-last w ↦
+          checked_falls m (network m c.args.nodes arcs lengths) n c.loop-arc.last _ refl (omega (arith, turn.0, turn.1)) c.loop-arc.invariant (ap (λ z. z.end) arc_is) w.if-arc-last.true order
+    ]
 
-pub returns-then-arc-last : goal.returns-then-arc-last
-returns-then-arc-last g c =
-    checked_falls g.M.Measure.algebra (network g.M.Measure.algebra c.args.nodes c.args.arcs.now c.args.lengths.now) c.loop-a.a c.loop-a.last refl (omega (arith, c.min-total.ensures)) c.loop-a.invariant c.if-arc-last.true
-
-pub loop-a-preserved : goal.loop-a-preserved
-loop-a-preserved g c =
-    let lt : c.loop-a.a < length c.args.lengths.now = omega (arith, c.min-total.ensures) in
-    let read = get_or_read c.args.lengths.now c.loop-a.a c.index-lengths-a.result lt c.index-lengths-a.is g.M.Measure.algebra.null in
-    checked_more g.M.Measure.algebra (network g.M.Measure.algebra c.args.nodes c.args.arcs.now c.args.lengths.now) c.loop-a.a c.loop-a.last c.loop-a.invariant
-    (fits_proper g.M.Measure.algebra c.args.nodes c.args.arcs.now c.args.lengths.now c.loop-a.a _ read c.if-not-fits.ensures) c.if-arc-last.false
+pub loop-arc-preserved : goal.loop-arc-preserved
+loop-arc-preserved g c =
+    let m = g.M.Measure.algebra in
+    let arcs = c.args.arcs.now in
+    let lengths = c.args.lengths.now in
+    let n = length c.loop-arc.yielded in
+    let turn = sides_turn c.into_iter-arc-iterator.ensures.into_iter_gives c.zip-arc-items.ensures.first c.iter.ensures.rest c.zip-arc-items.ensures.second.0 c.loop-arc.yielded c.loop-arc.arc-iterator c.next.new.self c.loop-arc.yielded_by (c.in-Some.arc, c.in-Some.x) c.in-Some.is c.next.ensures.steps in
+    let arc_is = turn.2 no_arc in
+    let x_is = turn.3 m.null in
+    checked_more m (network m c.args.nodes arcs lengths) n c.loop-arc.last _ _ c.loop-arc.invariant (length_push c.loop-arc.yielded (c.in-Some.arc, c.in-Some.x)) (ap (λ z. z.end) arc_is)
+    (fits_proper m c.args.nodes arcs lengths n _ _ arc_is x_is (c.if-not-fits.ensures {u = tt})) c.if-arc-last.false
 
 pub returns : goal.returns
-returns g c = checked_all _ _ _ _ (omega (arith, c.min-total.ensures)) c.loop-a.invariant
+returns g c =
+    checked_all _ _ _ _ (sides_end c.into_iter-arc-iterator.ensures.into_iter_gives c.zip-arc-items.ensures.first c.iter.ensures.rest c.zip-arc-items.ensures.second.0 c.loop-arc.yielded c.loop-arc.arc-iterator c.next.new.self c.loop-arc.yielded_by c.in-None.is c.next.ensures.steps) c.loop-arc.invariant
