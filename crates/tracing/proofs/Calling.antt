@@ -1,12 +1,14 @@
 -- The call next.
-use Rattle.std.proofs.Common.{◌≡◌, ℕ, zero, suc, ◌-◌, ◌*◌, ◌<◌, ◌≤◌, true, List, [], ◌∷◌, reverse, length, get_or, take, Some, None, sym, refl, ap, ◌∙◌, subst, arith}
+use Rattle.std.proofs.Common.{◌≡◌, ℕ, zero, suc, ◌-◌, ◌*◌, ◌<◌, ◌≤◌, List, [], ◌∷◌, reverse, length, get_or, take, Some, None, sym, refl, ap, ◌∙◌, subst, arith}
 use Rattle.std.proofs.lemmas.List.{length-take-le, ext_get_or, get_or-reverse, get_or-take, length-reverse}
 use Rattle.measure.specs.Algebra.{Algebra, Laws}
 use Rattle.walks.specs.Rows.{Table}
 use Rattle.walks.specs.Paths.{PathTo, Since, Next}
 use Rattle.tracing.specs.declared.Step.{Step}
+use Rattle.tracing.specs.declared.Handed.{Handed}
 use Rattle.tracing.specs.declared.Cursor.{Cursor}
-use Rattle.tracing.specs.Labels.{Tables, Held, Sizes, val, no_step}
+use Rattle.tracing.specs.Tables.{Tables, Sizes}
+use Rattle.tracing.specs.Labels.{label, Held, val, no_step}
 use Rattle.tracing.specs.Steps.{arcs_of}
 use Rattle.tracing.specs.Nexts.{net_of, Written, Advanced}
 use Rattle.tracing.specs.Standing.{newest, Standing, Hands, Ends}
@@ -35,7 +37,7 @@ module _ {V : Type 0} {m : Algebra V} (laws : Laws m) (T : Tables V) (c : Cursor
       let s = st.tracing.settled in
       absurd (out (record { nodes = s.nodes_high; row = s.k_high; beside = s.beside; rows = s.held.value_cells; held = s.held.count_cells }))
 
-  pub next_none : Advanced m T c.target c.place c.depth c.begun work work' None → (t : Table V) (handed : List (List ℕ)) → Standing m T t handed c work → Ends m T t handed c.target c work'
+  pub next_none : Advanced m T c.target c.last work work' None → (t : Table V) (handed : List (List ℕ)) → Standing m T t handed c work → Ends m T t handed c.target c work'
   next_none adv t handed st =
       let o = adv t st.tracing in
       record {
@@ -43,32 +45,32 @@ module _ {V : Type 0} {m : Algebra V} (laws : Laws m) (T : Tables V) (c : Cursor
         stands = subst (Standing m T t handed c) (sym o.same) st;
       }
 
-  module _ (p d : ℕ) (adv : Advanced m T c.target c.place c.depth c.begun work work' (Some (p, d))) where
-    found_few : (t : Table V) (handed : List (List ℕ)) → Standing m T t handed c work → d < T.nodes * T.k
+  module _ (h : Handed) (adv : Advanced m T c.target c.last work work' (Some h)) where
+    found_few : (t : Table V) (handed : List (List ℕ)) → Standing m T t handed c work → h.depth < T.nodes * T.k
     found_few t handed st =
         let f = adv.1 t st.tracing in
-        let few = few_arcs laws T t st.tracing.settled (c.target, p) (arcs_of (take d work')) (whole laws T (c.target, p) (take d work') f.begun.2) in
-        omega (arith, few, arcs_length (take d work'), length-take-le d work' adv.0)
+        let few = few_arcs laws T t st.tracing.settled (label c.target h.place) (arcs_of (take h.depth work')) (whole laws T (label c.target h.place) (take h.depth work') f.begun.2) in
+        omega (arith, few, arcs_length (take h.depth work'), length-take-le h.depth work' adv.0)
 
-    pub next_long : (path : List ℕ) → length path < d → (t : Table V) (handed : List (List ℕ)) → Standing m T t handed c work → T.nodes * T.k ≤ length path → Ends m T t handed c.target c work'
+    pub next_long : (path : List ℕ) → length path < h.depth → (t : Table V) (handed : List (List ℕ)) → Standing m T t handed c work → T.nodes * T.k ≤ length path → Ends m T t handed c.target c work'
     next_long path l t handed st room = absurd (omega (arith, found_few t handed st))
 
-    pub next_lost : ¬ Held T c.target p → (t : Table V) (handed : List (List ℕ)) → Standing m T t handed c work → Ends m T t handed c.target c work'
+    pub next_lost : ¬ Held T c.target h.place → (t : Table V) (handed : List (List ℕ)) → Standing m T t handed c work → Ends m T t handed c.target c work'
     next_lost out t handed st = absurd (out (adv.1 t st.tracing).begun.1)
 
-    pub next_some : (x : V) (path path' : List ℕ) → x ≡ val m T c.target p → d ≤ length path' → length work' ≡ length work → Written work' d path path'
-        → (t : Table V) (handed : List (List ℕ)) → Standing m T t handed c work → Hands m T t handed c.target (record { target = c.target; place = p; depth = d; begun = true }) work' path' d x
+    pub next_some : (x : V) (path path' : List ℕ) → x ≡ val m T c.target h.place → h.depth ≤ length path' → length work' ≡ length work → Written work' h.depth path path'
+        → (t : Table V) (handed : List (List ℕ)) → Standing m T t handed c work → Hands m T t handed c.target (record { target = c.target; last = Some h }) work' path' h.depth x
     next_some x path path' e lp size w t handed st =
         let f = adv.1 t st.tracing in
         let s = st.tracing in
-        let r = path_of laws T t s.settled c.target p (arcs_of (take d work')) (whole laws T (c.target, p) (take d work') f.begun.2) in
-        let next : Next m (net_of m T) T.source t c.target (newest handed) (arcs_of (take d work')) = subst (λ last. Next m (net_of m T) T.source t c.target last (arcs_of (take d work'))) (sym st.last) f.next in
+        let r = path_of laws T t s.settled c.target h.place (arcs_of (take h.depth work')) (whole laws T (label c.target h.place) (take h.depth work') f.begun.2) in
+        let next : Next m (net_of m T) T.source t c.target (newest handed) (arcs_of (take h.depth work')) = subst (λ last. Next m (net_of m T) T.source t c.target last (arcs_of (take h.depth work'))) (sym st.last) f.next in
         record {
-          walk = arcs_of (take d work');
+          walk = arcs_of (take h.depth work');
           next = next;
-          arcs_count = sym (arcs_length (take d work') ∙ length-take-le d work' adv.0);
+          arcs_count = sym (arcs_length (take h.depth work') ∙ length-take-le h.depth work' adv.0);
           is_length = e ∙ sym r.1;
-          written = written_reverse work' d path path' adv.0 lp w;
+          written = written_reverse work' h.depth path path' adv.0 lp w;
           stands = record {
             tracing = record { settled = s.settled; low = s.low; high = s.high; room = omega (arith, s.room); at = f.begun };
             handed_out = (next, st.handed_out);

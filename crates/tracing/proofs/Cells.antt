@@ -6,7 +6,9 @@ use Rattle.measure.specs.Algebra.{Algebra}
 use Rattle.walks.specs.Ways.{Lowest}
 use Rattle.sweeps.specs.declared.Arc.{Arc}
 use Rattle.sweeps.specs.Tables.{no_arc, arc_at, length_at, start_of}
-use Rattle.tracing.specs.Labels.{Tables, Label, lab, Held, val, Link, Back, Home, SortedArcs, Split}
+use Rattle.tracing.specs.declared.labels.Label.{Label}
+use Rattle.tracing.specs.Tables.{Tables}
+use Rattle.tracing.specs.Labels.{label, lab, Held, val, Link, Back, Home, SortedArcs, Split}
 
 pub cell_in : (n k j p v : ℕ) → n * k ≤ v → 0 < j → j ≤ n → p < k → start_of k j + p < v
 cell_in n k zero p v size low high l = absurd (omega arith)
@@ -55,7 +57,7 @@ split_same arcs node low high e h sorted = let s = h sorted in record { below = 
 module _ {V : Type 0} (m : Algebra V) (T : Tables V) (j p : ℕ) (here : V) (held : Held T j p) (is : here ≡ val m T j p) where
   -- no arc above the number and up to i leads back
   abbrev pub Passed : ℕ → ℕ → Type 0
-  Passed above i = (c : ℕ) (z : Label) → above < c → c ≤ i → ¬ Back m T (j, p) c z
+  Passed above i = (c : ℕ) (z : Label) → above < c → c ≤ i → ¬ Back m T (label j p) c z
 
   -- the arcs that stand before the node's own do not
   pub passed_first : (first above from : ℕ) → (above < first → from ≡ first) → (first ≤ above → from ≡ above) → Split T.arcs j first first → Passed above from
@@ -67,7 +69,7 @@ module _ {V : Type 0} (m : Algebra V) (T : Tables V) (j p : ℕ) (here : V) (hel
 
   module _ (i : ℕ) (lt : i < length T.arcs) where
     -- past an arc with another end there are none
-    pub passed_all : (first above : ℕ) → first ≤ i → Split T.arcs j first first → SortedArcs T.arcs → ¬ ((get_or T.arcs i no_arc).end ≡ j) → Passed above i → (c : ℕ) (z : Label) → above < c → ¬ Back m T (j, p) c z
+    pub passed_all : (first above : ℕ) → first ≤ i → Split T.arcs j first first → SortedArcs T.arcs → ¬ ((get_or T.arcs i no_arc).end ≡ j) → Passed above i → (c : ℕ) (z : Label) → above < c → ¬ Back m T (label j p) c z
     passed_all first above le s sorted other passed c z l b = go (dec_lt i c)
       where
         go : Dec (i < c) → ⊥
@@ -80,26 +82,26 @@ module _ {V : Type 0} (m : Algebra V) (T : Tables V) (j p : ℕ) (here : V) (hel
         go (no q) = passed c z l (omega arith) b
 
     module _ (x : V) (long : x ≡ get_or T.lengths i m.null) where
-      link_back : (q : ℕ) → Link m T (get_or T.arcs i no_arc) x j here q → Back m T (j, p) (i + 1) (lab T.arcs (record { arc = i + 1; place = q }))
+      link_back : (q : ℕ) → Link m T (get_or T.arcs i no_arc) x j here q → Back m T (label j p) (i + 1) (lab T.arcs (record { arc = i + 1; place = q }))
       link_back q h =
           let P : Arc → V → V → Type 0 = λ a l z. Link m T a l j z q in
           record { here = held; low = omega arith; high = omega arith; from = refl; link = subst (λ a. P a (length_at m T.lengths (i + 1)) (val m T j p)) (sym (arc_more T.arcs i)) (subst (λ l. P (get_or T.arcs i no_arc) l (val m T j p)) (long ∙ sym (length_more m T.lengths i)) (subst (λ z. P (get_or T.arcs i no_arc) x z) is h)) }
 
-      back_link : (z : Label) → Back m T (j, p) (i + 1) z → Link m T (get_or T.arcs i no_arc) x j here z.1
+      back_link : (z : Label) → Back m T (label j p) (i + 1) z → Link m T (get_or T.arcs i no_arc) x j here z.place
       back_link z b =
-          let P : Arc → V → V → Type 0 = λ a l y. Link m T a l j y z.1 in
+          let P : Arc → V → V → Type 0 = λ a l y. Link m T a l j y z.place in
           subst (λ y. P (get_or T.arcs i no_arc) x y) (sym is) (subst (λ l. P (get_or T.arcs i no_arc) l (val m T j p)) (length_more m T.lengths i ∙ sym long) (subst (λ a. P a (length_at m T.lengths (i + 1)) (val m T j p)) (arc_more T.arcs i) b.link))
 
       pub passed_more : (above : ℕ) → Passed above i → ((q : ℕ) → ¬ Link m T (get_or T.arcs i no_arc) x j here q) → Passed above (i + 1)
       passed_more above passed none c z l h b = go (dec_lt i c)
         where
           go : Dec (i < c) → ⊥
-          go (yes q) = let e : c ≡ i + 1 = omega arith in none z.1 (back_link z (subst (λ a. Back m T (j, p) a z) e b))
+          go (yes q) = let e : c ≡ i + 1 = omega arith in none z.place (back_link z (subst (λ a. Back m T (label j p) a z) e b))
           go (no q) = passed c z l (omega arith) b
 
-      pub found : (above q : ℕ) → above ≤ i → Passed above i → Link m T (get_or T.arcs i no_arc) x j here q → Lowest (Back m T) (Home m T) (j, p) above (i + 1) (lab T.arcs (record { arc = i + 1; place = q }))
+      pub found : (above q : ℕ) → above ≤ i → Passed above i → Link m T (get_or T.arcs i no_arc) x j here q → Lowest (Back m T) (Home m T) (label j p) above (i + 1) (lab T.arcs (record { arc = i + 1; place = q }))
       found above q le passed h = record { above = omega arith; leads = link_back q h; between = λ c z l r b. passed c z l (omega arith) b }
 
   -- after the last arc there are none
-  pub passed_end : (above i : ℕ) → length T.arcs ≤ i → Passed above i → (c : ℕ) (z : Label) → above < c → ¬ Back m T (j, p) c z
+  pub passed_end : (above i : ℕ) → length T.arcs ≤ i → Passed above i → (c : ℕ) (z : Label) → above < c → ¬ Back m T (label j p) c z
   passed_end above i le passed c z l b = let h = b.high in passed c z l (omega arith) b

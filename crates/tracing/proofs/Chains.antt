@@ -5,7 +5,9 @@ use Rattle.walks.specs.Ways.{Soonest, Later}
 use Rattle.walks.proofs.Ways.{stepwise}
 use Rattle.sweeps.specs.declared.Arc.{Arc}
 use Rattle.tracing.specs.declared.Step.{Step}
-use Rattle.tracing.specs.Labels.{Tables, Label, lab, Back, Home}
+use Rattle.tracing.specs.declared.labels.Label.{Label}
+use Rattle.tracing.specs.Tables.{Tables}
+use Rattle.tracing.specs.Labels.{lab, Back, Home}
 use Rattle.tracing.specs.Steps.{arcs_of, end_of, WayFrom, Chain, Sound}
 
 pub end_more : (arcs : List Arc) (x : Label) (us : List Step) (t : Step) → end_of arcs x (us ++ (t ∷ [])) ≡ lab arcs t

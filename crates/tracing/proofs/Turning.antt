@@ -6,7 +6,9 @@ use Rattle.walks.specs.Ways.{Soonest, Later, Last, Lowest, NoneAbove}
 use Rattle.walks.proofs.Ways.{stepwise}
 use Rattle.sweeps.specs.declared.Arc.{Arc}
 use Rattle.tracing.specs.declared.Step.{Step}
-use Rattle.tracing.specs.Labels.{Tables, Label, lab, no_step, Sorted, Back, Home}
+use Rattle.tracing.specs.declared.labels.Label.{Label}
+use Rattle.tracing.specs.Tables.{Tables}
+use Rattle.tracing.specs.Labels.{lab, no_step, Sorted, Back, Home}
 use Rattle.tracing.specs.Steps.{arcs_of, end_of, WayFrom, Alive, Chain, Sound, Down, Long, Stands, Turn}
 use Rattle.tracing.proofs.Chains.{end_more, arcs_more, arcs_join, arcs_length, chain_next, chain_way, chain_more, chain_part}
 

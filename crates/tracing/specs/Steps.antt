@@ -4,7 +4,9 @@ use Rattle.measure.specs.Algebra.{Algebra}
 use Rattle.walks.specs.Ways.{Soonest, Way, Later, Last, Steady}
 use Rattle.sweeps.specs.declared.Arc.{Arc}
 use Rattle.tracing.specs.declared.Step.{Step}
-use Rattle.tracing.specs.Labels.{Tables, Label, lab, Sorted, Back, Home}
+use Rattle.tracing.specs.declared.labels.Label.{Label}
+use Rattle.tracing.specs.Tables.{Tables}
+use Rattle.tracing.specs.Labels.{lab, Sorted, Back, Home}
 
 -- the arcs of the steps, the last arc of the path first
 abbrev pub arcs_of : List Step → List ℕ
