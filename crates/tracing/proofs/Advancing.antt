@@ -1,5 +1,5 @@
 -- The parts of a next, put together.
-use Rattle.std.proofs.Common.{◌≡◌, ℕ, ◌+◌, ◌-◌, ◌*◌, ◌≤◌, List, [], ◌++◌, length, get_or, take, Some, None, sym, refl, ap, ◌∙◌, subst, arith, length-append}
+use Rattle.std.proofs.Common.{◌≡◌, ℕ, ◌+◌, ◌-◌, ◌*◌, ◌≤◌, List, [], ◌++◌, length, get_or, take, Some, None, Option, sym, refl, ap, ◌∙◌, subst, arith, length-append}
 use lib.Seq.{take-append-add}
 use Rattle.std.proofs.lemmas.List.{length-take-le, append-nil, take-append-le}
 use Rattle.measure.specs.Algebra.{Algebra, Laws}
@@ -37,41 +37,36 @@ module _ {V : Type 0} {m : Algebra V} (laws : Laws m) (T : Tables V) where
 
   module _ (j : ℕ) (work work' : List Step) where
     -- no path was handed out yet
-    pub fresh_some : (h : Handed) → Opened m T (label j 0) work work' (Some h) → Advanced m T j None work work' (Some h)
-    fresh_some h o = (
+    pub fresh : (r : Option Handed) → Opened m T (label j 0) work work' r → Advanced m T j None work work' r
+    fresh (Some h) o = (
       o.1,
       λ t tr.
           let down = o.3 t tr.settled in
           record { next = opens laws T t tr.settled j tr.low tr.high 0 (arcs_of (take h.depth work')) refl o.2 down.soonest; begun = in_work (label j 0) h work' o.0 o.1 o.2 down },
     )
-
-    pub fresh_none : Opened m T (label j 0) work work' None → Advanced m T j None work work' None
-    fresh_none o = λ t tr. let r = o t tr.settled tr.room in record { none = empty laws T t tr.settled j tr.low tr.high 0 refl r.0; same = r.1 }
+    fresh None o = λ t tr. let r = o t tr.settled tr.room in record { none = empty laws T t tr.settled j tr.low tr.high 0 refl r.0; same = r.1 }
 
   module _ (j : ℕ) (l : Handed) (work mid : List Step) where
     abbrev x : Label
     x = label j l.place
 
     -- the last path of its length was handed out
-    module _ (work' : List Step) (turned : Turned m T (label j l.place) l.depth work mid None) where
-      pub passed_some : (h : Handed) → Opened m T (label j (l.place + 1)) mid work' (Some h) → Advanced m T j (Some l) work work' (Some h)
-      passed_some h o = (
-        o.1,
-        λ t tr.
-            let down = o.3 t tr.settled in
-            record {
-              next = moves_on laws T t tr.settled j tr.low tr.high l.place (arcs_of (take l.depth work)) (whole x (take l.depth work) tr.at.2) (turned.1 (sound_is laws T t tr.settled) tr.at.2) (arcs_of (take h.depth work')) o.2 down.soonest;
-              begun = in_work (label j (l.place + 1)) h work' o.0 o.1 o.2 down;
-            },
-      )
-
-      pub passed_none : Opened m T (label j (l.place + 1)) mid work' None → Advanced m T j (Some l) work work' None
-      passed_none o = λ t tr.
-          let r = o t tr.settled (subst (λ w. T.nodes * T.k ≤ length w) (sym turned.0) tr.room) in
+    pub passed : (work' : List Step) → Turned m T (label j l.place) l.depth work mid None → (r : Option Handed) → Opened m T (label j (l.place + 1)) mid work' r → Advanced m T j (Some l) work work' r
+    passed work' turned (Some h) o = (
+      o.1,
+      λ t tr.
+          let down = o.3 t tr.settled in
           record {
-            none = closes laws T t tr.settled j tr.low tr.high l.place (arcs_of (take l.depth work)) (whole x (take l.depth work) tr.at.2) (turned.1 (sound_is laws T t tr.settled) tr.at.2) r.0;
-            same = r.1 ∙ turned.0;
-          }
+            next = moves_on laws T t tr.settled j tr.low tr.high l.place (arcs_of (take l.depth work)) (whole x (take l.depth work) tr.at.2) (turned.1 (sound_is laws T t tr.settled) tr.at.2) (arcs_of (take h.depth work')) o.2 down.soonest;
+            begun = in_work (label j (l.place + 1)) h work' o.0 o.1 o.2 down;
+          },
+    )
+    passed work' turned None o = λ t tr.
+        let r = o t tr.settled (subst (λ w. T.nodes * T.k ≤ length w) (sym turned.0) tr.room) in
+        record {
+          none = closes laws T t tr.settled j tr.low tr.high l.place (arcs_of (take l.depth work)) (whole x (take l.depth work) tr.at.2) (turned.1 (sound_is laws T t tr.settled) tr.at.2) r.0;
+          same = r.1 ∙ turned.0;
+        }
 
     module _ (part rest : List Step) (kept : ℕ) (at : Label) (within : l.depth ≤ length work) (size : length mid ≡ length work)
         (turned : Turned m T (label j l.place) l.depth work mid (Some kept)) (is : at ≡ lab T.arcs (get_or mid (kept - 1) no_step)) where

@@ -1,5 +1,7 @@
 -- Reads of the tables.
-use Rattle.std.proofs.Common.{◌≡◌, ℕ, zero, suc, ◌+◌, ◌-◌, ◌*◌, ◌<◌, ◌≤◌, ◌⊎◌, List, length, get_or, sym, refl, ap, ◌∙◌, subst, inl, inr, mul-le-mul_right, suc-mul, add-one, arith}
+use Rattle.std.proofs.Common.{◌≡◌, ℕ, zero, suc, ◌+◌, ◌-◌, ◌*◌, ◌<◌, ◌≤◌, ◌⊎◌, List, length, get_or, sym, refl, ap, ◌∙◌, subst, inl, inr, mul-le-mul_right, suc-mul, add-one, arith, true, false, ltb, ltb-true, ltb-false}
+use Rattle.std.specs.List.Sorted.{IsPartitionedBy, IsPartitionPoint}
+use Rattle.std.proofs.lemmas.List.Sorted.{IsNonDecreasingBy-from_default, IsPartitionedBy-ltb}
 use native.Mathlib.Decide.{dec_lt}
 use Rattle.std.proofs.lemmas.List.{get_or_past}
 use Rattle.measure.specs.Algebra.{Algebra}
@@ -8,7 +10,7 @@ use Rattle.sweeps.specs.declared.Arc.{Arc}
 use Rattle.sweeps.specs.Tables.{no_arc, arc_at, length_at, start_of}
 use Rattle.tracing.specs.declared.labels.Label.{Label}
 use Rattle.tracing.specs.Tables.{Tables}
-use Rattle.tracing.specs.Labels.{label, lab, Held, val, Link, Back, Home, SortedArcs, Split}
+use Rattle.tracing.specs.Labels.{label, lab, Held, val, Link, Back, Home, SortedArcs, Split, Splits}
 
 pub cell_in : (n k j p v : ℕ) → n * k ≤ v → 0 < j → j ≤ n → p < k → start_of k j + p < v
 cell_in n k zero p v size low high l = absurd (omega arith)
@@ -33,25 +35,19 @@ arc_more arcs i = ap (arc_at arcs) (add-one i)
 pub length_more : {V : Type 0} (m : Algebra V) (lengths : List V) (i : ℕ) → length_at m lengths (i + 1) ≡ get_or lengths i m.null
 length_more m lengths i = ap (length_at m lengths) (add-one i)
 
--- a search for the first arc whose end is not below the node
-module _ (arcs : List Arc) (node low high i : ℕ) (lt : i < length arcs) (split : SortedArcs arcs → Split arcs node low high) where
-  pub split_up : (get_or arcs i no_arc).end < node → SortedArcs arcs → Split arcs node (i + 1) high
-  split_up l sorted = record {
-    below = λ c one le. let e = ap (λ (a : Arc). a.end) (arc_more arcs i) in let s = sorted c (i + 1) one le (omega arith) in omega arith;
-    beyond = (split sorted).beyond;
-  }
-
-  pub split_down : node ≤ (get_or arcs i no_arc).end → SortedArcs arcs → Split arcs node low i
-  split_down l sorted = record {
-    below = (split sorted).below;
-    beyond = λ c lo hi. let e = ap (λ (a : Arc). a.end) (arc_more arcs i) in let s = sorted (i + 1) c (omega arith) (omega arith) hi in omega arith;
-  }
-
-pub split_none : (arcs : List Arc) (node : ℕ) → SortedArcs arcs → Split arcs node 0 (length arcs)
-split_none arcs node sorted = record { below = λ c one le. absurd (omega arith); beyond = λ c lo hi. absurd (omega arith) }
-
-pub split_same : (arcs : List Arc) (node low high : ℕ) → low ≡ high → (SortedArcs arcs → Split arcs node low high) → SortedArcs arcs → Split arcs node low low
-split_same arcs node low high e h sorted = let s = h sorted in record { below = s.below; beyond = λ c lo hi. s.beyond c (omega arith) hi }
+-- the arcs that end below the node end where the table is parted
+pub splits_at : (arcs : List Arc) (node r : ℕ) → r ≤ length arcs
+    → (IsPartitionedBy (λ (a : Arc). ltb a.end node) arcs → IsPartitionPoint (λ (a : Arc). ltb a.end node ≡ true) (λ (a : Arc). ltb a.end node ≡ false) arcs r) → Splits arcs node r
+splits_at arcs node r size point = record {
+  within = size;
+  meant = λ sorted.
+      let rises = IsNonDecreasingBy-from_default (λ (a : Arc). a.end) arcs no_arc (λ i j le lt. sorted (suc i) (suc j) (omega arith) (omega arith) (omega arith)) in
+      let p = point (IsPartitionedBy-ltb (λ (a : Arc). a.end) arcs node rises) in
+      record {
+        below = λ c one le. let e = ap (λ (a : Arc). a.end) (arc_in arcs c one) in let t = ltb-true _ _ (p.0 (c - 1) no_arc (omega arith) (omega arith)) in omega arith;
+        beyond = λ c lo hi. let e = ap (λ (a : Arc). a.end) (arc_in arcs c (omega arith)) in let t = ltb-false _ _ (p.1 (c - 1) no_arc (omega arith) (omega arith)) in omega arith;
+      };
+}
 
 -- a search along the arcs into a node
 module _ {V : Type 0} (m : Algebra V) (T : Tables V) (j p : ℕ) (here : V) (held : Held T j p) (is : here ≡ val m T j p) where

@@ -29,7 +29,10 @@ impl<M: Measure> Lent<'_, M> {
     fn end(&self, from: Label, steps: &[Step]) -> Label
         ensures { result ≡ end_of self.now.arcs.now from steps.now }
     {
-        steps.last().map_or(from, |step| self.back(*step))
+        match steps {
+            [] => from,
+            [.., last] => self.back(*last),
+        }
     }
 
     // Drops levels until one has a further arc, takes that, and tells how many levels there are then.
