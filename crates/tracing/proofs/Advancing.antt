@@ -42,9 +42,9 @@ module _ {V : Type 0} {m : Algebra V} (laws : Laws m) (T : Tables V) where
       o.1,
       λ t tr.
           let down = o.3 t tr.settled in
-          record { next = opens laws T t tr.settled j tr.low tr.high 0 (arcs_of (take h.depth work')) refl o.2 down.soonest; begun = in_work (label j 0) h work' o.0 o.1 o.2 down },
+          record { next = opens laws T t tr.settled j tr.low tr.high (arcs_of (take h.depth work')) o.2 down.soonest; begun = in_work (label j 0) h work' o.0 o.1 o.2 down },
     )
-    fresh None o = λ t tr. let r = o t tr.settled tr.room in record { none = empty laws T t tr.settled j tr.low tr.high 0 refl r.0; same = r.1 }
+    fresh None o = λ t tr. let r = o t tr.settled tr.room in record { none = empty laws T t tr.settled j tr.low tr.high r.0; same = r.1 }
 
   module _ (j : ℕ) (l : Handed) (work mid : List Step) where
     abbrev x : Label

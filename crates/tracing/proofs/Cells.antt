@@ -1,5 +1,8 @@
 -- Reads of the tables.
-use Rattle.std.proofs.Common.{◌≡◌, ℕ, zero, suc, ◌+◌, ◌-◌, ◌*◌, ◌<◌, ◌≤◌, ◌⊎◌, List, length, get_or, sym, refl, ap, ◌∙◌, subst, inl, inr, mul-le-mul_right, suc-mul, add-one, arith, true, false, ltb, ltb-true, ltb-false}
+use Rattle.std.proofs.Common.{◌≡◌, ℕ, zero, suc, ◌+◌, ◌-◌, ◌*◌, ◌<◌, ◌≤◌, ◌⊎◌, List, length, get_or, sym, refl, ap, ◌∙◌, subst, inl, inr, mul-le-mul_right, suc-mul, add-one, zero-add, arith, Some, None, Option, true, false, ltb, ltb-true, ltb-false}
+use Rattle.std.specs.List.{AllWithin, HoldsAt, range_with_len}
+use Rattle.std.specs.Option.{MatchOption}
+use Rattle.std.proofs.lemmas.List.FromFn.{length-range_with_len, get_or-range_with_len}
 use Rattle.std.specs.List.Sorted.{IsPartitionedBy, IsPartitionPoint}
 use Rattle.std.proofs.lemmas.List.Sorted.{IsNonDecreasingBy-from_default, IsPartitionedBy-ltb}
 use native.Mathlib.Decide.{dec_lt}
@@ -10,7 +13,7 @@ use Rattle.sweeps.specs.declared.Arc.{Arc}
 use Rattle.sweeps.specs.Tables.{no_arc, arc_at, length_at, start_of}
 use Rattle.tracing.specs.declared.labels.Label.{Label}
 use Rattle.tracing.specs.Tables.{Tables}
-use Rattle.tracing.specs.Labels.{label, lab, Held, val, Link, Back, Home, SortedArcs, Split, Splits}
+use Rattle.tracing.specs.Labels.{label, lab, Held, val, Start, Link, Linked, Back, Home, SortedArcs, Split, Splits}
 
 pub cell_in : (n k j p v : ℕ) → n * k ≤ v → 0 < j → j ≤ n → p < k → start_of k j + p < v
 cell_in n k zero p v size low high l = absurd (omega arith)
@@ -49,23 +52,30 @@ splits_at arcs node r size point = record {
       };
 }
 
+-- the first place of the arc's start whose length comes over the arc
+module _ {V : Type 0} (m : Algebra V) (T : Tables V) (arc : Arc) (x : V) (j : ℕ) (z : V) where
+  abbrev pub Fits : ℕ → Type 0
+  Fits q = Start m T (label arc.start q) x z
+
+  abbrev pub places : List ℕ
+  places = range_with_len 0 T.k
+
+  pub first_link : (r : Option ℕ) → arc.«open» ≡ true → arc.end ≡ j
+      → MatchOption r (AllWithin (λ q. ¬ Fits q) places 0 (length places)) (λ q. Fits q × (i : ℕ) × (i < length places) × HoldsAt (λ y. y ≡ q) places i × AllWithin (λ q. ¬ Fits q) places 0 i) → Linked m T arc x j z r
+  first_link (Some q) marked into h = record { marked = marked; into = into; start = h.0.0; comes = h.0.1 }
+  first_link None marked into h = λ q l.
+      let e = get_or-range_with_len 0 T.k q 0 l.start.in_row ∙ zero-add q in
+      h q 0 (omega arith) (omega (arith, length-range_with_len 0 T.k, l.start.in_row)) (subst Fits (sym e) (l.start, l.comes))
+
 -- a search along the arcs into a node
 module _ {V : Type 0} (m : Algebra V) (T : Tables V) (j p : ℕ) (here : V) (held : Held T j p) (is : here ≡ val m T j p) where
   -- no arc above the number and up to i leads back
   abbrev pub Passed : ℕ → ℕ → Type 0
   Passed above i = (c : ℕ) (z : Label) → above < c → c ≤ i → ¬ Back m T (label j p) c z
 
-  -- the arcs that stand before the node's own do not
-  pub passed_first : (first above from : ℕ) → (above < first → from ≡ first) → (first ≤ above → from ≡ above) → Split T.arcs j first first → Passed above from
-  passed_first first above from up down s c z l h b = let q : c ≤ first = omega_c (dec_lt above first) in let e = b.link.into in let t = s.below c (omega arith) q in omega arith
-    where
-      omega_c : Dec (above < first) → c ≤ first
-      omega_c (yes y) = omega (arith, up y)
-      omega_c (no y) = absurd (omega (arith, down (omega arith)))
-
   module _ (i : ℕ) (lt : i < length T.arcs) where
     -- past an arc with another end there are none
-    pub passed_all : (first above : ℕ) → first ≤ i → Split T.arcs j first first → SortedArcs T.arcs → ¬ ((get_or T.arcs i no_arc).end ≡ j) → Passed above i → (c : ℕ) (z : Label) → above < c → ¬ Back m T (label j p) c z
+    pub passed_all : (first above : ℕ) → first ≤ i → Split T.arcs j first → SortedArcs T.arcs → ¬ ((get_or T.arcs i no_arc).end ≡ j) → Passed above i → (c : ℕ) (z : Label) → above < c → ¬ Back m T (label j p) c z
     passed_all first above le s sorted other passed c z l b = go (dec_lt i c)
       where
         go : Dec (i < c) → ⊥
@@ -97,7 +107,3 @@ module _ {V : Type 0} (m : Algebra V) (T : Tables V) (j p : ℕ) (here : V) (hel
 
       pub found : (above q : ℕ) → above ≤ i → Passed above i → Link m T (get_or T.arcs i no_arc) x j here q → Lowest (Back m T) (Home m T) (label j p) above (i + 1) (lab T.arcs (record { arc = i + 1; place = q }))
       found above q le passed h = record { above = omega arith; leads = link_back q h; between = λ c z l r b. passed c z l (omega arith) b }
-
-  -- after the last arc there are none
-  pub passed_end : (above i : ℕ) → length T.arcs ≤ i → Passed above i → (c : ℕ) (z : Label) → above < c → ¬ Back m T (label j p) c z
-  passed_end above i le passed c z l b = let h = b.high in passed c z l (omega arith) b

@@ -84,18 +84,18 @@ module _ {V : Type 0} {m : Algebra V} (laws : Laws m) (T : Tables V) (t : Table 
   next_some w v n = record { path = path_as v n.path; since = n.since; first = λ u p s. n.first u (as_path u p) s }
 
   -- the first way of the first length is the first path
-  pub opens : (p : ℕ) (v : List ℕ) → p ≡ 0 → Held T j p → Soonest (WayFrom m T (label j p)) v → Next m (net_of m T) T.source t j None v
-  opens p v z h r = next_none v ((found laws T t set).first j (val m T j p) v (val_in laws T t set j p h) least (soonest_to p v h r))
+  pub opens : (v : List ℕ) → Held T j 0 → Soonest (WayFrom m T (label j 0)) v → Next m (net_of m T) T.source t j None v
+  opens v h r = next_none v ((found laws T t set).first j (val m T j 0) v (val_in laws T t set j 0 h) least (soonest_to 0 v h r))
     where
-      least : (x : V) → In x (S j) → ¬ Before m x (val m T j p)
+      least : (x : V) → In x (S j) → ¬ Before m x (val m T j 0)
       least x i b =
           let q = place_of x i in
-          let l = lower q.place p q.held h (subst (λ y. Before m y (val m T j p)) (sym q.is) b) in
+          let l = lower q.place 0 q.held h (subst (λ y. Before m y (val m T j 0)) (sym q.is) b) in
           omega arith
 
   -- without a first length there is none
-  pub empty : (p : ℕ) → p ≡ 0 → ¬ Held T j p → (u : List ℕ) → PathTo m (net_of m T) T.source t j u → ¬ Since m (net_of m T) T.source t None u
-  empty p z out u r s = let q = place_of (walk_length m (net_of m T) u) (as_path u r).inside in out (lower_held p q.place (omega arith) q.held)
+  pub empty : ¬ Held T j 0 → (u : List ℕ) → PathTo m (net_of m T) T.source t j u → ¬ Since m (net_of m T) T.source t None u
+  empty out u r s = let q = place_of (walk_length m (net_of m T) u) (as_path u r).inside in out (lower_held 0 q.place (omega arith) q.held)
 
   module _ (p : ℕ) (w : List ℕ) (way : WayFrom m T (label j p) w) where
     held : Held T j p

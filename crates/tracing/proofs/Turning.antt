@@ -45,9 +45,6 @@ module _ {V : Type 0} (m : Algebra V) (T : Tables V) where
     pub size : d ≤ length work
     pub meant : Sound m T → Alive m T x → Reached x (take d work) y
 
-  pub going_none : (x : Label) (work : List Step) → Going x work 0 x
-  going_none x work = record { size = omega arith; meant = λ sound alive. record { chain = tt; is = refl; alive = alive; soonest = λ v h. h } }
-
   reach_step : Sound m T → (x y : Label) (us : List Step) (t : Step) → Reached x us y → Lowest (Back m T) (Home m T) y 0 t.arc (lab T.arcs t) → Reached x (us ++ (t ∷ [])) (lab T.arcs t)
   reach_step sound x y us t r low = record {
     chain = chain_more m T x us t r.chain (subst (λ z. Back m T z t.arc (lab T.arcs t)) (sym r.is) low.leads);
@@ -175,8 +172,3 @@ module _ {V : Type 0} (m : Algebra V) (T : Tables V) where
       let f : left - 1 + 1 ≡ left = omega arith in
       let z = drops.size in
       dropping_more x y depth now size (left - 1) (omega arith) is (subst (Dropping x depth now) (sym f) drops) none
-
-  pub turn_none : (x : Label) (depth : ℕ) (work now : List Step) (left : ℕ) → now ≡ work → left ≡ 0 → Dropping x depth now left → Sound m T → Stands m T x (take depth work) → Last (Back m T) (Home m T) x (arcs_of (take depth work))
-  turn_none x depth work now left e z drops =
-      subst (λ w. Sound m T → Stands m T x (take depth w) → Last (Back m T) (Home m T) x (arcs_of (take depth w))) e
-      (subst (Dropping x depth now) z drops).meant

@@ -27,10 +27,10 @@ lab arcs t = label (arc_at arcs t.arc).start t.place
 abbrev pub no_step : Step
 no_step = record { arc = 0; place = 0 }
 
--- the arcs 1 to low end below the node, and those past high do not
-pub record Split (arcs : List Arc) (node low high : ℕ) : Type 0 where
-  pub below : (c : ℕ) → 1 ≤ c → c ≤ low → (arc_at arcs c).end < node
-  pub beyond : (c : ℕ) → high < c → c ≤ length arcs → node ≤ (arc_at arcs c).end
+-- the arcs 1 to r end below the node, and those past r do not
+pub record Split (arcs : List Arc) (node r : ℕ) : Type 0 where
+  pub below : (c : ℕ) → 1 ≤ c → c ≤ r → (arc_at arcs c).end < node
+  pub beyond : (c : ℕ) → r < c → c ≤ length arcs → node ≤ (arc_at arcs c).end
 
 -- ends do not descend along the arc table
 abbrev pub SortedArcs : List Arc → Type 0
@@ -38,7 +38,7 @@ SortedArcs arcs = (a b : ℕ) → 1 ≤ a → a ≤ b → b ≤ length arcs → 
 
 pub record Splits (arcs : List Arc) (node r : ℕ) : Type 0 where
   pub within : r ≤ length arcs
-  pub meant : SortedArcs arcs → Split arcs node r r
+  pub meant : SortedArcs arcs → Split arcs node r
 
 module _ {V : Type 0} (T : Tables V) where
   abbrev pub Sorted : Type 0
@@ -60,9 +60,13 @@ module _ {V : Type 0} (m : Algebra V) (T : Tables V) where
   abbrev pub val : ℕ → ℕ → V
   val j p = slice_index_or T.values (start_of T.k j + p) m.null
 
-  abbrev pub Valued : ℕ → ℕ → Option V → Type 0
-  Valued j p (Some x) = Held T j p × (x ≡ val j p)
-  Valued j p None = ¬ Held T j p
+  abbrev pub Valued : Label → Option V → Type 0
+  Valued x (Some z) = Held T x.node x.place × (z ≡ val x.node x.place)
+  Valued x None = ¬ Held T x.node x.place
+
+  -- label y has a length that, joined with x, is z
+  abbrev pub Start : Label → V → V → Type 0
+  Start y x z = Held T y.node y.place × Comes m (val y.node y.place) x z
 
   -- the length at place q of the arc's start comes over the arc, of length x, to the length z of node j
   pub record Link (arc : Arc) (x : V) (j : ℕ) (z : V) (q : ℕ) : Type 0 where

@@ -1,7 +1,7 @@
 // Labels, and the arcs that lead back from one to another.
 ghost use Rattle.std.specs.Prelude.{◌≡◌};
 ghost use Rattle.sweeps.specs.Tables.{Whether};
-ghost use Rattle.tracing.specs.Labels.{read, lab, Comes, Valued, Linked, Home};
+ghost use Rattle.tracing.specs.Labels.{read, lab, Start, Valued, Linked, Home};
 
 use super::Step;
 use super::lent::Lent;
@@ -15,19 +15,10 @@ pub struct Label {
     pub place: usize,
 }
 
-// Whether a length joined with that of an arc is another.
-fn comes<M: Measure>(there: M, x: M, here: M) -> bool
-    ensures { Whether result (Comes M.Measure.algebra there x here) }
-{
-    there
-        .join(&x)
-        .is_some_and(|sum| sum.compare(&here).is_eq())
-}
-
 impl<M: Measure> Lent<'_, M> {
     // The length at a label.
     pub fn value(&self, label: Label) -> Option<M>
-        ensures { Valued M.Measure.algebra (read self.now) label.node label.place result }
+        ensures { Valued M.Measure.algebra (read self.now) label result }
     {
         let Label { node, place } = label;
         let k = self.order.k;
@@ -37,6 +28,15 @@ impl<M: Measure> Lent<'_, M> {
         Some(self.values[(node - 1) * k + place])
     }
 
+    // Whether a label has a length that, joined with that of an arc, is another.
+    fn comes(&self, label: Label, x: M, here: M) -> bool
+        ensures { Whether result (Start M.Measure.algebra (read self.now) label x here) }
+    {
+        self.value(label)
+            .and_then(|there| there.join(&x))
+            .is_some_and(|sum| sum.compare(&here).is_eq())
+    }
+
     // The place, in the row of the arc's start, of the length that comes over the arc to the length `here` of a node.
     pub fn link(&self, arc: Arc, x: M, node: usize, here: M) -> Option<usize>
         ensures { Linked M.Measure.algebra (read self.now) arc x node here result }
@@ -44,18 +44,15 @@ impl<M: Measure> Lent<'_, M> {
         if !arc.open || arc.end as usize != node {
             return None;
         }
-        for place in 0..self.order.k {
-            let start = Label {
-                node: arc.start as usize,
-                place,
-            };
-            if let Some(there) = self.value(start) {
-                if comes(there, x, here) {
-                    return Some(place);
-                }
-            }
-        }
-        None
+        let node = arc.start as usize;
+        (0..self.order.k).find(|place| self.comes(
+            Label {
+                node,
+                place: *place,
+            },
+            x,
+            here,
+        ))
     }
 
     // Whether a label is null at the source.
