@@ -9,7 +9,7 @@ use Rattle.sweeps.specs.declared.refusal.Refusal.{Refusal}
 use Rattle.sweeps.specs.Tables.{Whether}
 use Rattle.tracing.specs.declared.Step.{Step}
 use Rattle.tracing.specs.declared.Cursor.{Cursor}
-use Rattle.tracing.specs.Labels.{Tables, tables}
+use Rattle.tracing.specs.Tables.{Tables, tables}
 use Rattle.tracing.specs.Standing.{new_cursor, Standing, Framed, Meant, Nexted}
 use Rattle.session.specs.declared.stages.Settled.{Settled}
 use Rattle.session.specs.declared.stages.Trace.{Trace}
@@ -122,7 +122,7 @@ module _ {V : Type 0} (m : Algebra V) (net : Net V) (k s : ℕ) (t : Table V) (t
             low = o.low;
             high = omega arith;
             room = omega arith;
-            at = refl;
+            at = tt;
           };
           handed_out = tt;
           last = refl;

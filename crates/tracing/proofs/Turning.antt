@@ -1,5 +1,5 @@
 -- What the two loops of a next keep.
-use Rattle.std.proofs.Common.{◌≡◌, ℕ, Bool, true, false, ◌+◌, ◌-◌, ◌<◌, ◌≤◌, List, [], ◌∷◌, ◌++◌, length, get_or, take, drop, set, sym, refl, ap, ◌∙◌, subst, ap₂, append-nil, arith, length-append, length-set}
+use Rattle.std.proofs.Common.{◌≡◌, ℕ, Bool, true, false, ◌+◌, ◌-◌, ◌<◌, ◌≤◌, List, [], ◌∷◌, ◌++◌, length, get_or, take, drop, set, sym, ap, ◌∙◌, subst, ap₂, append-nil, arith, length-append, length-set}
 use Rattle.std.proofs.lemmas.List.{take_more, take_more_set, length-take-le, take-take, drop_more, take-append-drop, get_or-take, take_all, drop_all}
 use Rattle.std.specs.Bool.{then_some}
 use Rattle.measure.specs.Algebra.{Algebra}
