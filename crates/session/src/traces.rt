@@ -54,8 +54,16 @@ impl Trace {
     {
         let Settled { draft, order, .. } = &self.settled;
         let (arcs, lengths) = draft.parts(arcs, lengths);
-        self.cursor
-            .next(draft.nodes, *order, arcs, lengths, values, counts, work, path)
+        self.cursor.next(
+            draft.nodes,
+            *order,
+            arcs,
+            lengths,
+            values,
+            counts,
+            work,
+            path,
+        )
     }
 
     // Gives the settled session back.
