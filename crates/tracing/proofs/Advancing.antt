@@ -1,7 +1,7 @@
 -- The parts of a next, put together.
 use Rattle.std.proofs.Common.{◌≡◌, ℕ, ◌+◌, ◌-◌, ◌*◌, ◌≤◌, List, [], ◌++◌, length, get_or, take, Some, None, Option, sym, refl, ap, ◌∙◌, subst, arith, length-append}
 use lib.Seq.{take-append-add}
-use Rattle.std.proofs.lemmas.List.{length-take-le, append-nil, take-append-le}
+use Rattle.std.proofs.lemmas.List.{length-take-le, append-nil, take-append-le, map-append, length-map}
 use Rattle.measure.specs.Algebra.{Algebra, Laws}
 use Rattle.walks.specs.Rows.{Table}
 use Rattle.walks.specs.Paths.{Next}
@@ -12,7 +12,7 @@ use Rattle.tracing.specs.Tables.{Tables}
 use Rattle.tracing.specs.Labels.{label, lab, no_step, Held, Home}
 use Rattle.tracing.specs.Steps.{arcs_of, end_of, WayFrom, Alive, Down, Stands, Turn, Descended, Turned}
 use Rattle.tracing.specs.Nexts.{net_of, InWork, Tracing, Opened, Found, Advanced}
-use Rattle.tracing.proofs.Chains.{end_join, arcs_join, arcs_length, chain_way, chain_join}
+use Rattle.tracing.proofs.Chains.{end_join, chain_way, chain_join}
 use Rattle.tracing.proofs.Turning.{end_at}
 use Rattle.tracing.proofs.Meaning.{sound_is, alive, few_arcs}
 use Rattle.tracing.proofs.Firsts.{opens, empty, goes_on, moves_on, closes}
@@ -97,7 +97,7 @@ module _ {V : Type 0} {m : Algebra V} (laws : Laws m) (T : Tables V) where
           found t tr =
               let turn = turn_at t tr in
               let d : Down m T (end_of T.arcs x (take kept mid)) (take more part) = subst (λ y. Down m T y (take more part)) (sym ends) (down.1 (sound_is laws T t tr.settled) (alive_at t tr)) in
-              let arcs_are = ap arcs_of steps ∙ arcs_join (take kept mid) (take more part) in
+              let arcs_are = ap arcs_of steps ∙ map-append (λ (t : Step). t.arc) (take kept mid) (take more part) in
               record {
                 next = subst (Next m (net_of m T) T.source t j (Some (arcs_of (take l.depth work)))) (sym arcs_are)
                     (goes_on laws T t tr.settled j tr.low tr.high l.place (arcs_of (take l.depth work)) (whole x (take l.depth work) tr.at.2) (arcs_of (take kept mid) ++ arcs_of (take more part)) (turn.next (arcs_of (take more part)) d.soonest));
@@ -117,6 +117,6 @@ module _ {V : Type 0} {m : Algebra V} (laws : Laws m) (T : Tables V) where
           let way = chain_way m T x (take kept mid) long.way (turn_at t tr).chain (subst (λ y. WayFrom m T y long.way) (sym ends) long.is) in
           let few = few_arcs laws T t tr.settled x (arcs_of (take kept mid) ++ long.way) way in
           let a = length-append (arcs_of (take kept mid)) long.way in
-          let b = arcs_length (take kept mid) in
+          let b = length-map (take kept mid) (λ (t : Step). t.arc) in
           let c = length-take-le kept mid (omega (arith, turned.1)) in
           absurd (omega (arith, long.long, tr.room, turned.1))

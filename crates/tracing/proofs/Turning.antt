@@ -1,6 +1,6 @@
 -- What the two loops of a next keep.
 use Rattle.std.proofs.Common.{◌≡◌, ℕ, Bool, true, false, ◌+◌, ◌-◌, ◌<◌, ◌≤◌, List, [], ◌∷◌, ◌++◌, length, get_or, take, drop, set, sym, ap, ◌∙◌, subst, ap₂, append-nil, arith, length-append, length-set}
-use Rattle.std.proofs.lemmas.List.{take_more, take_more_set, length-take-le, take-take, drop_more, take-append-drop, get_or-take, take_all, drop_all}
+use Rattle.std.proofs.lemmas.List.{take_more, take_more_set, length-take-le, take-take, drop_more, take-append-drop, get_or-take, take_all, drop_all, map-append, length-map}
 use Rattle.std.specs.Bool.{then_some}
 use Rattle.measure.specs.Algebra.{Algebra}
 use Rattle.walks.specs.Ways.{Soonest, Later, Last, Lowest, NoneAbove}
@@ -12,7 +12,7 @@ use Rattle.tracing.specs.declared.labels.Label.{Label}
 use Rattle.tracing.specs.Tables.{Tables}
 use Rattle.tracing.specs.Labels.{lab, no_step, Sorted, Back, Home}
 use Rattle.tracing.specs.Steps.{arcs_of, end_of, WayFrom, Alive, Chain, Sound, Down, Long, Stands, Turn, Descended}
-use Rattle.tracing.proofs.Chains.{end_more, arcs_more, arcs_join, arcs_length, chain_next, chain_way, chain_more, chain_part}
+use Rattle.tracing.proofs.Chains.{end_more, arcs_more, chain_next, chain_way, chain_more, chain_part}
 
 -- the end of the first levels is the label of the last of them
 pub end_level : (arcs : List Arc) (x : Label) (work : List Step) (i : ℕ) → i < length work → end_of arcs x (take (i + 1) work) ≡ lab arcs (get_or work i no_step)
@@ -72,7 +72,7 @@ module _ {V : Type 0} (m : Algebra V) (T : Tables V) where
   going_full x y work d g full sound alive =
       let r = g.meant sound alive in
       let w = r.alive in
-      let e = arcs_length (take d work) in
+      let e = length-map (take d work) (λ (t : Step). t.arc) in
       let f = length-append (arcs_of (take d work)) w.0 in
       let q = length-take-le d work g.size in
       record { way = arcs_of (take d work) ++ w.0; is = chain_way m T x (take d work) w.0 r.chain (subst (λ z. WayFrom m T z w.0) (sym r.is) w.1); long = omega arith }
@@ -134,7 +134,7 @@ module _ {V : Type 0} (m : Algebra V) (T : Tables V) where
         end = end_more T.arcs x (take i work) t
 
         old : arcs_of (take depth work) ≡ arcs_of (take i work) ++ ((get_or work i no_step).arc ∷ arcs_of (drop (i + 1) (take depth work)))
-        old = ap arcs_of (parts work depth i lt size) ∙ arcs_join (take i work) (get_or work i no_step ∷ drop (i + 1) (take depth work))
+        old = ap arcs_of (parts work depth i lt size) ∙ map-append (λ (t : Step). t.arc) (take i work) (get_or work i no_step ∷ drop (i + 1) (take depth work))
 
         next : (v : List ℕ) → Soonest (WayFrom m T (End x (take i work ++ (t ∷ [])))) v → Soonest (Later (Back m T) (Home m T) x (arcs_of (take depth work))) (arcs_of (take i work ++ (t ∷ [])) ++ v)
         next v h =

@@ -1,5 +1,5 @@
 -- The premise of a trace, and what the parts of a next find and write.
-use Rattle.std.specs.Prelude.{◌≡◌, ℕ, ◌-◌, ◌*◌, ◌<◌, ◌≤◌, List, length, take, drop, Some, None, Option, slice_index, slice_index_or}
+use Rattle.std.specs.Prelude.{◌≡◌, ℕ, ◌*◌, ◌≤◌, List, reverse, length, take, drop, Some, None, Option}
 use Rattle.measure.specs.Algebra.{Algebra}
 use Rattle.walks.specs.Networks.{Network}
 use Rattle.walks.specs.Circuits.{NegativeCircuit, NullCircuit}
@@ -11,13 +11,13 @@ use Rattle.tracing.specs.declared.Step.{Step}
 use Rattle.tracing.specs.declared.Handed.{Handed}
 use Rattle.tracing.specs.declared.labels.Label.{Label}
 use Rattle.tracing.specs.Tables.{Tables}
-use Rattle.tracing.specs.Labels.{label, Held, no_step}
+use Rattle.tracing.specs.Labels.{label, Held}
 use Rattle.tracing.specs.Steps.{arcs_of, Stands, Down}
 
--- the arcs of the first steps are in the first cells of the path table, from the source on, and the other cells are as they were
-pub record Written (steps : List Step) (depth : ℕ) (path path' : List ℕ) : Type 0 where
-  pub cells : (i : ℕ) → i < depth → slice_index path' i ≡ (slice_index_or steps (depth - 1 - i) no_step).arc
-  pub past : drop depth path' ≡ drop depth path
+-- the arcs of the steps are in the first cells of the path table, from the source on, and the other cells are as they were
+pub record Written (steps : List Step) (path path' : List ℕ) : Type 0 where
+  pub cells : take (length steps) path' ≡ reverse (arcs_of steps)
+  pub past : drop (length steps) path' ≡ drop (length steps) path
 
 module _ {V : Type 0} (m : Algebra V) (T : Tables V) where
   -- the network that the tables hold

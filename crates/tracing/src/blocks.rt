@@ -21,6 +21,7 @@ impl<M: Measure> Lent<'_, M> {
     {
         let here = self.value(label)?;
         let from = above.max(before_node(self.arcs, label.node));
+        // By index: an arc's number is its place in two tables, so an iterator would be a zip, enumerated and skipped.
         for i in from..self.arcs.len() {
             let arc = self.arcs[i];
             if arc.end as usize != label.node {

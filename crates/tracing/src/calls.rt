@@ -19,7 +19,7 @@ impl Cursor {
     }
 
     // Hands out the next path: writes its arcs from the source on into the first cells of the path table, and tells how many there are and its length.
-    // The work table is to be as the last call on this cursor left it.
+    // Each table is lent to each call. The work table is to be as the last call on this cursor left it.
     pub fn next<'a, M: Measure>(
         &mut self,
         nodes: usize,
@@ -42,7 +42,7 @@ impl Cursor {
             node: self.target,
             place: found.place,
         })?;
-        write_path(work, found.depth, path);
+        write_path(&work[..found.depth], path);
         self.last = Some(found);
         Some((found.depth, length))
     }

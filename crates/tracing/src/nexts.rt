@@ -52,12 +52,11 @@ impl<M: Measure> Lent<'_, M> {
 }
 
 // Writes the arcs of a path from the source on.
-pub fn write_path(work: &[Step], depth: usize, path: &mut [usize])
-    requires steps { depth ≤ length work.now }
-    requires cells { depth ≤ length path.old }
-    ensures { Written work.now depth path.old path.new }
+pub fn write_path(steps: &[Step], path: &mut [usize])
+    requires { length steps.now ≤ length path.old }
+    ensures { Written steps.now path.old path.new }
 {
-    for i in 0..depth {
-        path[i] = work[depth - 1 - i].arc;
+    for (i, step) in steps.iter().rev().enumerate() {
+        path[i] = step.arc;
     }
 }
