@@ -1,5 +1,5 @@
 -- A session's solve is the solve of its tables.
-use Rattle.std.proofs.Common.{◌≡◌, ℕ, ◌-◌, ◌≤◌, min, List, length, take, Some, None, Ok, Err, Option, Result, sym, refl, ap, ◌∙◌, subst, arith}
+use Rattle.std.proofs.Common.{◌≡◌, ℕ, ◌≤◌, List, length, Some, None, Ok, Err, Option, Result, sym, refl, ap, subst, arith}
 use Rattle.std.proofs.lemmas.Bool.Decides.{nat_tests}
 use Rattle.measure.specs.Algebra.{Algebra, Laws}
 use Rattle.sweeps.specs.declared.Arc.{Arc}
@@ -88,21 +88,15 @@ module _ {V : Type 0} (m : Algebra V) (d : Draft) (o : Order) (values : List V) 
         let g = subst (λ q. Meant m net.nodes o.k o.source net.arcs net.lengths values counts None q values' counts') e.0 h in
         record { ended = g.ended; circuit = g.circuit; holds = subst (λ x. DraftHolds m net x arcs lengths) (sym e.1) holds }
 
-    -- the parts of the tables that the solve is lent are those of the network
-    used : (most : ℕ) → most ≡ min (min d.count (length arcs)) (length lengths) → (most ≡ d.count)
-    used most e = let a = holds.arc_room in let l = holds.length_room in omega arith
-
-    pub solve_meant : (most : ℕ) (a : Answer) → most ≡ min (min d.count (length arcs)) (length lengths) → Solves m d.nodes o.k o.source (take (most - 0) arcs) (take (most - 0) lengths) values counts r values' counts' → Passed d o r a
+    -- the solve is lent the parts of the tables that are the network's
+    pub solve_meant : (arcs₀ : List Arc) (lengths₀ : List V) (a : Answer) → (arcs₀ ≡ net.arcs) × (lengths₀ ≡ net.lengths) → Solves m d.nodes o.k o.source arcs₀ lengths₀ values counts r values' counts' → Passed d o r a
         → SolveMeant m net o.k o.source (begin_verdict net.nodes o.k o.source (length values) (length counts)) a arcs lengths values' counts'
-    solve_meant most a e h p =
-        let u : most - 0 ≡ d.count = (let z = used most e in omega arith) in
-        let arcs_are = ap (λ i. take i arcs) u ∙ holds.in_arcs in
-        let lengths_are = ap (λ i. take i lengths) u ∙ holds.in_lengths in
+    solve_meant arcs₀ lengths₀ a parts h p =
         let n = holds.nodes in
         let moved : Solves m net.nodes o.k o.source net.arcs net.lengths values counts r values' counts' =
         subst (λ i. Solves m i o.k o.source net.arcs net.lengths values counts r values' counts') n
-        (subst (λ t. Solves m d.nodes o.k o.source t net.lengths values counts r values' counts') arcs_are
-        (subst (λ t. Solves m d.nodes o.k o.source (take (most - 0) arcs) t values counts r values' counts') lengths_are h)) in
+        (subst (λ t. Solves m d.nodes o.k o.source t net.lengths values counts r values' counts') parts.0
+        (subst (λ t. Solves m d.nodes o.k o.source arcs₀ t values counts r values' counts') parts.1 h)) in
         let low = d.ok.0 in
         let high = d.ok.1 in
         subst (λ v. SolveMeant m net o.k o.source v a arcs lengths values' counts') (same_verdict net.nodes o.k o.source (length values) (length counts) (omega arith) (omega arith))

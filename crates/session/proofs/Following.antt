@@ -1,5 +1,5 @@
 -- A trace and its tables hold what it has handed out.
-use Rattle.std.proofs.Common.{◌≡◌, ℕ, ◌-◌, ◌*◌, ◌≤◌, min, false, List, [], length, take, Some, None, Ok, Err, Option, Result, sym, refl, ap, ◌∙◌, subst, arith}
+use Rattle.std.proofs.Common.{◌≡◌, ℕ, ◌*◌, ◌≤◌, false, List, [], length, Some, None, Ok, Err, Option, Result, sym, refl, ap, ◌∙◌, subst, arith}
 use Rattle.std.proofs.lemmas.Bool.Decides.{nat_tests}
 use Rattle.measure.specs.Algebra.{Algebra}
 use Rattle.walks.specs.Circuits.{NullCircuit as NullReached}
@@ -9,7 +9,7 @@ use Rattle.sweeps.specs.declared.refusal.Refusal.{Refusal}
 use Rattle.sweeps.specs.Tables.{Whether}
 use Rattle.tracing.specs.declared.Step.{Step}
 use Rattle.tracing.specs.declared.Cursor.{Cursor}
-use Rattle.tracing.specs.Labels.{Tables, tables}
+use Rattle.tracing.specs.Tables.{Tables, tables}
 use Rattle.tracing.specs.Standing.{new_cursor, Standing, Framed, Meant, Nexted}
 use Rattle.session.specs.declared.stages.Settled.{Settled}
 use Rattle.session.specs.declared.stages.Trace.{Trace}
@@ -50,18 +50,11 @@ module _ {V : Type 0} (m : Algebra V) (trace : Trace) (work : List Step) (path :
       holds = record { settled = holds.settled; aimed = aim ∙ holds.aimed; standing = h.stands; path_room = (let p = holds.path_room in omega arith) };
     }
 
-    used : (most : ℕ) → most ≡ min (min trace.settled.draft.count (length arcs)) (length lengths) → most - 0 ≡ trace.settled.draft.count
-    used most e = let a = holds.settled.draft.arc_room in let l = holds.settled.draft.length_room in omega arith
-
-    pub next_meant : (most : ℕ) (r : Option (ℕ × V)) → most ≡ min (min trace.settled.draft.count (length arcs)) (length lengths)
-        → Nexted m (tables trace.settled.draft.nodes trace.settled.order.k trace.settled.order.source (take (most - 0) arcs) (take (most - 0) lengths) values counts) trace.cursor work path c' work' path' r
-        → NextMeant m net k s t target handed r moved arcs lengths values counts work' path'
-    next_meant most r e h =
-        let d = holds.settled.draft in
-        let arcs_are : take (most - 0) arcs ≡ net.arcs = ap (λ i. take i arcs) (used most e) ∙ d.in_arcs in
-        let lengths_are : take (most - 0) lengths ≡ net.lengths = ap (λ i. take i lengths) (used most e) ∙ d.in_lengths in
-        let same : tables trace.settled.draft.nodes trace.settled.order.k trace.settled.order.source (take (most - 0) arcs) (take (most - 0) lengths) values counts ≡ tables net.nodes k s net.arcs net.lengths values counts =
-        (λ j. tables (d.nodes j) (holds.settled.width j) (holds.settled.from j) (arcs_are j) (lengths_are j) values counts) in
+    pub next_meant : (arcs₀ : List Arc) (lengths₀ : List V) (r : Option (ℕ × V)) → (arcs₀ ≡ net.arcs) × (lengths₀ ≡ net.lengths)
+        → Nexted m (tables trace.settled.draft.nodes trace.settled.order.k trace.settled.order.source arcs₀ lengths₀ values counts) trace.cursor work path c' work' path' r → NextMeant m net k s t target handed r moved arcs lengths values counts work' path'
+    next_meant arcs₀ lengths₀ r parts h =
+        let same : tables trace.settled.draft.nodes trace.settled.order.k trace.settled.order.source arcs₀ lengths₀ values counts ≡ tables net.nodes k s net.arcs net.lengths values counts =
+        (λ j. tables (holds.settled.draft.nodes j) (holds.settled.width j) (holds.settled.from j) (parts.0 j) (parts.1 j) values counts) in
         let n : Nexted m (tables net.nodes k s net.arcs net.lengths values counts) trace.cursor work path c' work' path' r = subst (λ T. Nexted m T trace.cursor work path c' work' path' r) same h in
         means r n.target n.path_size
         (subst (λ j. Meant m (tables net.nodes k s net.arcs net.lengths values counts) t handed j c' work' path' r) holds.aimed (n.meant t handed holds.standing holds.path_room))
@@ -122,7 +115,7 @@ module _ {V : Type 0} (m : Algebra V) (net : Net V) (k s : ℕ) (t : Table V) (t
             low = o.low;
             high = omega arith;
             room = omega arith;
-            at = refl;
+            at = tt;
           };
           handed_out = tt;
           last = refl;

@@ -1,102 +1,54 @@
 -- A draft and its tables hold the network that its calls build.
-use Rattle.std.proofs.Common.{◌≡◌, ℕ, zero, suc, ◌+◌, ◌-◌, ◌^◌, ◌<◌, ◌≤◌, Bool, List, [], ◌∷◌, ◌++◌, length, get_or, take, set, Some, None, Ok, Err, Option, Result, sym, refl, ap, ◌∙◌, subst, arith, length-append, length-set, get_or-take}
+use Rattle.std.proofs.Common.{◌≡◌, ℕ, zero, suc, ◌+◌, ◌-◌, ◌^◌, ◌<◌, ◌≤◌, Bool, List, [], ◌∷◌, ◌++◌, length, get_or, take, set, Ok, Err, Result, sym, refl, ap, ◌∙◌, subst, arith, length-append, length-set, get_or-take}
 use lib.Seq.{take-set-lt}
 use Rattle.std.proofs.lemmas.List.{take_more_set}
-use Rattle.std.proofs.lemmas.Bool.Decides.{nat_tests}
 use Rattle.measure.specs.Algebra.{Algebra}
 use Rattle.sweeps.specs.declared.Arc.{Arc}
 use Rattle.sweeps.specs.declared.refusal.Refusal.{Refusal}
 use Rattle.sweeps.specs.Tables.{no_arc, arc_at}
 use Rattle.session.specs.declared.stages.Draft.{Draft}
-use Rattle.session.specs.Nets.{Net, new_arc, marked}
-use Rattle.session.specs.Drafts.{judged, DraftHolds, put_verdict, PutDone, with_put, relength_verdict, RelengthDone, with_length, MarkDone, with_mark}
+use Rattle.session.specs.Nets.{Net, new_arc, marked, add_arc, relength_arc}
+use Rattle.session.specs.Drafts.{DraftHolds, MarkDone, with_mark}
 use Rattle.session.proofs.Ordered.{added, remarked, last_remarked, relengthed, last_added}
 
--- an accepted answer comes from no reason against it
-pub accepted : {R : Type 0} (v : Option Refusal) (x y : R) → Ok y ≡ judged v x → v ≡ None
-accepted (Some why) x y e = absurd (let z : ◌≡◌ {A = ℕ} 0 1 = cc in omega arith)
-accepted None x y e = refl
-
 module _ {V : Type 0} (m : Algebra V) where
-  -- what a put that is not refused knows
-  record PutFits (n count last a l start end : ℕ) (x : V) : Type 0 where
-    start_low : 1 ≤ start
-    start_high : start ≤ n
-    end_low : 1 ≤ end
-    end_high : end ≤ n
-    apart : ¬ (start ≡ end)
-    above : last ≤ end
-    small : m.magnitude x ≤ 10 ^ 9
-    arc_room : count < a
-    length_room : count < l
-
-  put_fits : (n count last a l start end : ℕ) (x : V) → put_verdict m n count last a l start end x ≡ None → PutFits n count last a l start end x
-  put_fits n count last a l start end x e = record {
-    start_low = grind (arith, nat_tests);
-    start_high = grind (arith, nat_tests);
-    end_low = grind (arith, nat_tests);
-    end_high = grind (arith, nat_tests);
-    apart = λ z. grind (arith, nat_tests);
-    above = grind (arith, nat_tests);
-    small = grind (arith, nat_tests);
-    arc_room = grind (arith, nat_tests);
-    length_room = grind (arith, nat_tests);
-  }
-
-  pub put_holds : (net : Net V) (d : Draft) (arcs : List Arc) (lengths : List V) (start end : ℕ) (x : V) (r : Result ℕ Refusal) (d' : Draft) (arcs' : List Arc) (lengths' : List V)
-      → DraftHolds m net d arcs lengths → PutDone m d arcs lengths start end x r d' arcs' lengths' → DraftHolds m (with_put m net start end x r) d' arcs' lengths'
-  put_holds net d arcs lengths start end x (Err why) d' arcs' lengths' h done =
-      subst (λ t. DraftHolds m net t arcs' lengths') (sym done.written.0) (subst (λ t. DraftHolds m net d t lengths') (sym done.written.1) (subst (λ t. DraftHolds m net d arcs t) (sym done.written.2) h))
-  put_holds net d arcs lengths start end x (Ok i) d' arcs' lengths' h done =
-      let w = done.written in
-      let f = put_fits d.nodes d.count d.last (length arcs) (length lengths) start end x (accepted _ _ i done.answer) in
+  -- an arc that a put takes
+  pub put_holds : (net : Net V) (d : Draft) (arcs : List Arc) (lengths : List V) (start end : ℕ) (x : V) (d' : Draft) → DraftHolds m net d arcs lengths
+      → 1 ≤ start → start ≤ d.nodes → 1 ≤ end → end ≤ d.nodes → ¬ (start ≡ end) → d.last ≤ end → m.magnitude x ≤ 10 ^ 9 → d.count < length arcs → d.count < length lengths
+      → d'.nodes ≡ d.nodes → d'.count ≡ d.count + 1 → d'.last ≡ end → DraftHolds m (add_arc net start end x) d' (set arcs d.count (new_arc start end)) (set lengths d.count x)
+  put_holds net d arcs lengths start end x d' h start_low start_high end_low end_high apart above small arc_room length_room nodes more last =
       let n = h.nodes in
       let c = h.count in
       let b = h.beside in
-      let nodes = w.0 in
-      let more = w.1 in
-      let la = ap length w.3 ∙ length-set arcs d.count (new_arc start end) in
-      let ll = ap length w.4 ∙ length-set lengths d.count x in
-      let fa = f.arc_room in
-      let fl = f.length_room in
+      let la = length-set arcs d.count (new_arc start end) in
+      let ll = length-set lengths d.count x in
       record {
         nodes = nodes ∙ n;
         count = omega (arith, length-append net.arcs (new_arc start end ∷ []));
         beside = omega (arith, length-append net.arcs (new_arc start end ∷ []), length-append net.lengths (x ∷ []));
         arc_room = omega arith;
         length_room = omega arith;
-        in_arcs = ap (λ k. take k arcs') more ∙ ap (take (d.count + 1)) w.3 ∙ take_more_set arcs d.count (new_arc start end) fa ∙ ap (λ t. t ++ new_arc start end ∷ []) h.in_arcs;
-        in_lengths = ap (λ k. take k lengths') more ∙ ap (take (d.count + 1)) w.4 ∙ take_more_set lengths d.count x fl ∙ ap (λ t. t ++ x ∷ []) h.in_lengths;
-        last = w.2 ∙ sym (last_added m net b h.ordered start end x);
+        in_arcs = ap (λ k. take k (set arcs d.count (new_arc start end))) more ∙ take_more_set arcs d.count (new_arc start end) arc_room ∙ ap (λ t. t ++ new_arc start end ∷ []) h.in_arcs;
+        in_lengths = ap (λ k. take k (set lengths d.count x)) more ∙ take_more_set lengths d.count x length_room ∙ ap (λ t. t ++ x ∷ []) h.in_lengths;
+        last = last ∙ sym (last_added m net b h.ordered start end x);
         ordered =
             let l = h.last in
-            let sh = f.start_high in
-            let eh = f.end_high in
-            let ab = f.above in
-            added m net b h.ordered start end x f.start_low (omega arith) f.end_low (omega arith) f.apart (omega arith) f.small;
+            added m net b h.ordered start end x start_low (omega arith) end_low (omega arith) apart (omega arith) small;
       }
 
-  relength_small : (count a : ℕ) (x : V) → relength_verdict m count a x ≡ None → m.magnitude x ≤ 10 ^ 9
-  relength_small count a x e = grind (arith, nat_tests)
-
-  pub relength_holds : (net : Net V) (d : Draft) (arcs : List Arc) (lengths : List V) (a : ℕ) (x : V) (r : Result (Unit {0}) Refusal) (lengths' : List V)
-      → DraftHolds m net d arcs lengths → RelengthDone m d lengths a x r lengths' → DraftHolds m (with_length m net a x r) d arcs lengths'
-  relength_holds net d arcs lengths a x (Err why) lengths' h done = subst (λ t. DraftHolds m net d arcs t) (sym done.written) h
-  relength_holds net d arcs lengths a x (Ok u) lengths' h done =
-      let w = done.written in
+  pub relength_holds : (net : Net V) (d : Draft) (arcs : List Arc) (lengths : List V) (a : ℕ) (x : V) → 1 ≤ a → a ≤ d.count → m.magnitude x ≤ 10 ^ 9
+      → DraftHolds m net d arcs lengths → DraftHolds m (relength_arc net a x) d arcs (set lengths (a - 1) x)
+  relength_holds net d arcs lengths a x low high small h =
       let c = h.count in
-      let low = w.0 in
-      let high = w.1 in
       let room = h.length_room in
-      let small = relength_small d.count a x (accepted _ tt u (done.answer room)) in
       record {
         nodes = h.nodes;
         count = c;
         beside = length-set net.lengths (a - 1) x ∙ h.beside;
         arc_room = h.arc_room;
-        length_room = let l = ap length w.2 ∙ length-set lengths (a - 1) x in omega arith;
+        length_room = omega (arith, length-set lengths (a - 1) x);
         in_arcs = h.in_arcs;
-        in_lengths = ap (take d.count) w.2 ∙ take-set-lt d.count lengths (a - 1) x (omega arith) ∙ ap (λ t. set t (a - 1) x) h.in_lengths;
+        in_lengths = take-set-lt d.count lengths (a - 1) x (omega arith) ∙ ap (λ t. set t (a - 1) x) h.in_lengths;
         last = h.last;
         ordered = relengthed m net h.beside h.ordered a x low small;
       }

@@ -8,7 +8,7 @@ use Rattle.sweeps.specs.declared.Arc.{Arc}
 use Rattle.sweeps.specs.declared.refusal.Refusal.{Refusal}
 use Rattle.sweeps.specs.declared.refusal.Refusal.TheVariants.{NoSuchNode, NullCircuit, ShortTraceTables}
 use Rattle.tracing.specs.declared.Step.{Step}
-use Rattle.tracing.specs.Labels.{tables}
+use Rattle.tracing.specs.Tables.{tables}
 use Rattle.tracing.specs.Standing.{new_cursor, newest, Standing}
 use Rattle.session.specs.declared.stages.Settled.{Settled}
 use Rattle.session.specs.declared.stages.Trace.{Trace}

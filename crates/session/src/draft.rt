@@ -1,5 +1,5 @@
 // What a draft takes: arcs, other lengths for them, and marks.
-ghost use Rattle.std.specs.Prelude.{true, false, List, length};
+ghost use Rattle.std.specs.Prelude.{◌≡◌, true, false, min, List, length, take};
 ghost use Rattle.session.specs.Nets.{Net};
 ghost use Rattle.session.specs.Drafts.{DraftHolds, NewDraft, PutDone, PutMeant, MarkDone, MarkMeant, RelengthDone, RelengthMeant};
 
@@ -34,21 +34,8 @@ impl Draft {
         end: usize,
         length: M,
     ) -> Result<usize, Refusal>
-        ensures done { PutDone M.Measure.algebra self.old arcs.old lengths.old start end «length» result self.new arcs.new lengths.new }
-        ensures meant { (net : Net M) → DraftHolds M.Measure.algebra net self.old arcs.old lengths.old → PutMeant M.Measure.algebra net start end «length» result self.new arcs.new lengths.new }
-    {
-        self.enter(arcs, lengths, start, end, length)
-    }
-
-    fn enter<M: Measure>(
-        &mut self,
-        arcs: &mut [Arc],
-        lengths: &mut [M],
-        start: usize,
-        end: usize,
-        length: M,
-    ) -> Result<usize, Refusal>
-        ensures { PutDone M.Measure.algebra self.old arcs.old lengths.old start end «length» result self.new arcs.new lengths.new }
+        ensures done { PutDone M.Measure.algebra self.old arcs.old lengths.old start end length result self.new arcs.new lengths.new }
+        ensures meant { (net : Net M) → DraftHolds M.Measure.algebra net self.old arcs.old lengths.old → PutMeant M.Measure.algebra net start end length result self.new arcs.new lengths.new }
     {
         if start == 0 || start > self.nodes || end == 0 || end > self.nodes {
             return Err(Refusal::ArcEnd);
@@ -84,19 +71,8 @@ impl Draft {
         arc: usize,
         length: M,
     ) -> Result<(), Refusal>
-        ensures done { RelengthDone M.Measure.algebra self.now lengths.old arc «length» result lengths.new }
-        ensures meant { (net : Net M) (arcs : List Arc) → DraftHolds M.Measure.algebra net self.now arcs lengths.old → RelengthMeant M.Measure.algebra net arc «length» result self.now arcs lengths.new }
-    {
-        self.set_length(lengths, arc, length)
-    }
-
-    fn set_length<M: Measure>(
-        &self,
-        lengths: &mut [M],
-        arc: usize,
-        length: M,
-    ) -> Result<(), Refusal>
-        ensures { RelengthDone M.Measure.algebra self.now lengths.old arc «length» result lengths.new }
+        ensures done { RelengthDone M.Measure.algebra self.now lengths.old arc length result lengths.new }
+        ensures meant { (net : Net M) (arcs : List Arc) → DraftHolds M.Measure.algebra net self.now arcs lengths.old → RelengthMeant M.Measure.algebra net arc length result self.now arcs lengths.new }
     {
         if arc == 0 || arc > self.count || arc > lengths.len() {
             return Err(Refusal::NoSuchArc);
@@ -128,12 +104,20 @@ impl Draft {
         if arc == 0 || arc > self.count || arc > arcs.len() {
             return Err(Refusal::NoSuchArc);
         }
-        let old = arcs[arc - 1];
-        arcs[arc - 1] = Arc {
-            start: old.start,
-            end: old.end,
-            open,
-        };
+        arcs[arc - 1].open = open;
         Ok(())
+    }
+
+    // The parts of the arc and length tables that hold the draft's arcs.
+    pub(crate) fn parts<'a, M: Measure>(
+        &self,
+        arcs: &'a [Arc],
+        lengths: &'a [M],
+    ) -> (&'a [Arc], &'a [M])
+        ensures value { let most = min (min self.now.count (length arcs.now)) (length lengths.now) in (result.0.now ≡ take most arcs.now) × (result.1.now ≡ take most lengths.now) }
+        ensures meant { (net : Net M) → DraftHolds M.Measure.algebra net self.now arcs.now lengths.now → (result.0.now ≡ net.arcs) × (result.1.now ≡ net.lengths) }
+    {
+        let most = self.count.min(arcs.len()).min(lengths.len());
+        (&arcs[..most], &lengths[..most])
     }
 }

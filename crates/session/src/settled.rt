@@ -10,34 +10,6 @@ use super::{Draft, Settled};
 use measure::Measure;
 use sweeps::{Arc, Refusal, clear};
 
-// The length at a place of a node's row in these tables; none past the row, or past the tables.
-fn length_at<M: Measure>(
-    values: &[M],
-    counts: &[usize],
-    k: usize,
-    node: usize,
-    place: usize,
-) -> Option<M>
-    requires node_low { 1 ≤ node }
-    requires node_high { node ≤ 1000 }
-    requires place_low { 1 ≤ place }
-    requires place_high { place ≤ k }
-    requires width { k ≤ 20 }
-    ensures { (n : ℕ) (t : Table M) → RowsHeld M.Measure.algebra n k values.now counts.now t → node ≤ n → result ≡ slice_get (t node) (place - 1) }
-{
-    if node > counts.len() {
-        return None;
-    }
-    if place > counts[node - 1] {
-        return None;
-    }
-    let at = (node - 1) * k + (place - 1);
-    if at >= values.len() {
-        return None;
-    }
-    Some(values[at])
-}
-
 impl Settled {
     // The length at a place of a node's row, counted from 1; none if the row is shorter.
     pub fn length<M: Measure>(
@@ -53,11 +25,13 @@ impl Settled {
         if node == 0 || node > self.draft.nodes {
             return Err(Refusal::NoSuchNode);
         }
-        let k = self.order.k;
-        if place == 0 || place > k {
+        if place == 0 || place > self.order.k {
             return Err(Refusal::NoSuchPlace);
         }
-        Ok(length_at(values, counts, k, node, place))
+        if node > counts.len() || place > counts[node - 1] {
+            return Ok(None);
+        }
+        Ok(values.get((node - 1) * self.order.k + (place - 1)).copied())
     }
 
     // Gives the draft back, with its arcs, and clears the rows.
@@ -72,7 +46,7 @@ impl Settled {
         } = self;
         let cells = (draft.nodes * order.k).min(values.len());
         let nodes = draft.nodes.min(counts.len());
-        clear(&mut values[0..cells], &mut counts[0..nodes]);
+        clear(&mut values[..cells], &mut counts[..nodes]);
         draft
     }
 }

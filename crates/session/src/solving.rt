@@ -21,15 +21,8 @@ impl Draft {
         ensures done { SolveDone M.Measure.algebra self order values.old counts.old result values.new counts.new }
         ensures meant { (net : Net M) → DraftHolds M.Measure.algebra net self arcs.now lengths.now → SolveMeant M.Measure.algebra net order.k order.source (begin_verdict net.nodes order.k order.source (length values.old) (length counts.old)) result arcs.now lengths.now values.new counts.new }
     {
-        let most = self.count.min(arcs.len()).min(lengths.len());
-        match solve(
-            self.nodes,
-            order,
-            &arcs[0..most],
-            &lengths[0..most],
-            values,
-            counts,
-        ) {
+        let (arcs, lengths) = self.parts(arcs, lengths);
+        match solve(self.nodes, order, arcs, lengths, values, counts) {
             Ok(found) => {
                 let settled = Settled {
                     draft: self,

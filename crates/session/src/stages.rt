@@ -3,7 +3,7 @@ ghost use Rattle.std.specs.Prelude.{◌≤◌};
 use sweeps::Order;
 use tracing::Cursor;
 
-// A session that takes arcs: for so many nodes, with so many arcs so far, the last of which ends at `last` (0 for none).
+// A session that takes arcs: for so many nodes, with so many arcs so far. No arc may end below `last`, where the last one ends.
 #[derive(Drop)]
 pub struct Draft {
     pub(crate) nodes: usize,

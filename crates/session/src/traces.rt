@@ -52,12 +52,13 @@ impl Trace {
         ensures done { NextDone M.Measure.algebra self.old work.old path.old result self.new work.new path.new }
         ensures meant { (net : Net M) (k s : ℕ) (t : Table M) (target : ℕ) (handed : List (List ℕ)) → TraceHolds M.Measure.algebra net k s t target handed self.old arcs.now lengths.now values.now counts.now work.old path.old → NextMeant M.Measure.algebra net k s t target handed result self.new arcs.now lengths.now values.now counts.now work.new path.new }
     {
-        let most = self.settled.draft.count.min(arcs.len()).min(lengths.len());
+        let Settled { draft, order, .. } = &self.settled;
+        let (arcs, lengths) = draft.parts(arcs, lengths);
         self.cursor.next(
-            self.settled.draft.nodes,
-            self.settled.order,
-            &arcs[0..most],
-            &lengths[0..most],
+            draft.nodes,
+            *order,
+            arcs,
+            lengths,
             values,
             counts,
             work,

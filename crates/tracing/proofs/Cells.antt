@@ -1,12 +1,19 @@
 -- Reads of the tables.
-use Rattle.std.proofs.Common.{◌≡◌, ℕ, zero, suc, ◌+◌, ◌-◌, ◌*◌, ◌<◌, ◌≤◌, ◌⊎◌, List, length, get_or, sym, refl, ap, ◌∙◌, subst, inl, inr, mul-le-mul_right, suc-mul, add-one, arith}
+use Rattle.std.proofs.Common.{◌≡◌, ℕ, zero, suc, ◌+◌, ◌-◌, ◌*◌, ◌<◌, ◌≤◌, ◌⊎◌, List, length, get_or, sym, refl, ap, ◌∙◌, subst, inl, inr, mul-le-mul_right, suc-mul, add-one, zero-add, arith, Some, None, Option, true, false, ltb, ltb-true, ltb-false}
+use Rattle.std.specs.List.{AllWithin, HoldsAt, range_with_len}
+use Rattle.std.specs.Option.{MatchOption}
+use Rattle.std.proofs.lemmas.List.FromFn.{length-range_with_len, get_or-range_with_len}
+use Rattle.std.specs.List.Sorted.{IsPartitionedBy, IsPartitionPoint}
+use Rattle.std.proofs.lemmas.List.Sorted.{IsNonDecreasingBy-from_default, IsPartitionedBy-ltb}
 use native.Mathlib.Decide.{dec_lt}
 use Rattle.std.proofs.lemmas.List.{get_or_past}
 use Rattle.measure.specs.Algebra.{Algebra}
 use Rattle.walks.specs.Ways.{Lowest}
 use Rattle.sweeps.specs.declared.Arc.{Arc}
 use Rattle.sweeps.specs.Tables.{no_arc, arc_at, length_at, start_of}
-use Rattle.tracing.specs.Labels.{Tables, Label, lab, Held, val, Link, Back, Home, SortedArcs, Split}
+use Rattle.tracing.specs.declared.labels.Label.{Label}
+use Rattle.tracing.specs.Tables.{Tables}
+use Rattle.tracing.specs.Labels.{label, lab, Held, val, Start, Link, Linked, Back, Home, SortedArcs, Split, Splits}
 
 pub cell_in : (n k j p v : ℕ) → n * k ≤ v → 0 < j → j ≤ n → p < k → start_of k j + p < v
 cell_in n k zero p v size low high l = absurd (omega arith)
@@ -31,43 +38,44 @@ arc_more arcs i = ap (arc_at arcs) (add-one i)
 pub length_more : {V : Type 0} (m : Algebra V) (lengths : List V) (i : ℕ) → length_at m lengths (i + 1) ≡ get_or lengths i m.null
 length_more m lengths i = ap (length_at m lengths) (add-one i)
 
--- a search for the first arc whose end is not below the node
-module _ (arcs : List Arc) (node low high i : ℕ) (lt : i < length arcs) (split : SortedArcs arcs → Split arcs node low high) where
-  pub split_up : (get_or arcs i no_arc).end < node → SortedArcs arcs → Split arcs node (i + 1) high
-  split_up l sorted = record {
-    below = λ c one le. let e = ap (λ (a : Arc). a.end) (arc_more arcs i) in let s = sorted c (i + 1) one le (omega arith) in omega arith;
-    beyond = (split sorted).beyond;
-  }
+-- the arcs that end below the node end where the table is parted
+pub splits_at : (arcs : List Arc) (node r : ℕ) → r ≤ length arcs
+    → (IsPartitionedBy (λ (a : Arc). ltb a.end node) arcs → IsPartitionPoint (λ (a : Arc). ltb a.end node ≡ true) (λ (a : Arc). ltb a.end node ≡ false) arcs r) → Splits arcs node r
+splits_at arcs node r size point = record {
+  within = size;
+  meant = λ sorted.
+      let rises = IsNonDecreasingBy-from_default (λ (a : Arc). a.end) arcs no_arc (λ i j le lt. sorted (suc i) (suc j) (omega arith) (omega arith) (omega arith)) in
+      let p = point (IsPartitionedBy-ltb (λ (a : Arc). a.end) arcs node rises) in
+      record {
+        below = λ c one le. let e = ap (λ (a : Arc). a.end) (arc_in arcs c one) in let t = ltb-true _ _ (p.0 (c - 1) no_arc (omega arith) (omega arith)) in omega arith;
+        beyond = λ c lo hi. let e = ap (λ (a : Arc). a.end) (arc_in arcs c (omega arith)) in let t = ltb-false _ _ (p.1 (c - 1) no_arc (omega arith) (omega arith)) in omega arith;
+      };
+}
 
-  pub split_down : node ≤ (get_or arcs i no_arc).end → SortedArcs arcs → Split arcs node low i
-  split_down l sorted = record {
-    below = (split sorted).below;
-    beyond = λ c lo hi. let e = ap (λ (a : Arc). a.end) (arc_more arcs i) in let s = sorted (i + 1) c (omega arith) (omega arith) hi in omega arith;
-  }
+-- the first place of the arc's start whose length comes over the arc
+module _ {V : Type 0} (m : Algebra V) (T : Tables V) (arc : Arc) (x : V) (j : ℕ) (z : V) where
+  abbrev pub Fits : ℕ → Type 0
+  Fits q = Start m T (label arc.start q) x z
 
-pub split_none : (arcs : List Arc) (node : ℕ) → SortedArcs arcs → Split arcs node 0 (length arcs)
-split_none arcs node sorted = record { below = λ c one le. absurd (omega arith); beyond = λ c lo hi. absurd (omega arith) }
+  abbrev pub places : List ℕ
+  places = range_with_len 0 T.k
 
-pub split_same : (arcs : List Arc) (node low high : ℕ) → low ≡ high → (SortedArcs arcs → Split arcs node low high) → SortedArcs arcs → Split arcs node low low
-split_same arcs node low high e h sorted = let s = h sorted in record { below = s.below; beyond = λ c lo hi. s.beyond c (omega arith) hi }
+  pub first_link : (r : Option ℕ) → arc.«open» ≡ true → arc.end ≡ j
+      → MatchOption r (AllWithin (λ q. ¬ Fits q) places 0 (length places)) (λ q. Fits q × (i : ℕ) × (i < length places) × HoldsAt (λ y. y ≡ q) places i × AllWithin (λ q. ¬ Fits q) places 0 i) → Linked m T arc x j z r
+  first_link (Some q) marked into h = record { marked = marked; into = into; start = h.0.0; comes = h.0.1 }
+  first_link None marked into h = λ q l.
+      let e = get_or-range_with_len 0 T.k q 0 l.start.in_row ∙ zero-add q in
+      h q 0 (omega arith) (omega (arith, length-range_with_len 0 T.k, l.start.in_row)) (subst Fits (sym e) (l.start, l.comes))
 
 -- a search along the arcs into a node
 module _ {V : Type 0} (m : Algebra V) (T : Tables V) (j p : ℕ) (here : V) (held : Held T j p) (is : here ≡ val m T j p) where
   -- no arc above the number and up to i leads back
   abbrev pub Passed : ℕ → ℕ → Type 0
-  Passed above i = (c : ℕ) (z : Label) → above < c → c ≤ i → ¬ Back m T (j, p) c z
-
-  -- the arcs that stand before the node's own do not
-  pub passed_first : (first above from : ℕ) → (above < first → from ≡ first) → (first ≤ above → from ≡ above) → Split T.arcs j first first → Passed above from
-  passed_first first above from up down s c z l h b = let q : c ≤ first = omega_c (dec_lt above first) in let e = b.link.into in let t = s.below c (omega arith) q in omega arith
-    where
-      omega_c : Dec (above < first) → c ≤ first
-      omega_c (yes y) = omega (arith, up y)
-      omega_c (no y) = absurd (omega (arith, down (omega arith)))
+  Passed above i = (c : ℕ) (z : Label) → above < c → c ≤ i → ¬ Back m T (label j p) c z
 
   module _ (i : ℕ) (lt : i < length T.arcs) where
     -- past an arc with another end there are none
-    pub passed_all : (first above : ℕ) → first ≤ i → Split T.arcs j first first → SortedArcs T.arcs → ¬ ((get_or T.arcs i no_arc).end ≡ j) → Passed above i → (c : ℕ) (z : Label) → above < c → ¬ Back m T (j, p) c z
+    pub passed_all : (first above : ℕ) → first ≤ i → Split T.arcs j first → SortedArcs T.arcs → ¬ ((get_or T.arcs i no_arc).end ≡ j) → Passed above i → (c : ℕ) (z : Label) → above < c → ¬ Back m T (label j p) c z
     passed_all first above le s sorted other passed c z l b = go (dec_lt i c)
       where
         go : Dec (i < c) → ⊥
@@ -80,26 +88,22 @@ module _ {V : Type 0} (m : Algebra V) (T : Tables V) (j p : ℕ) (here : V) (hel
         go (no q) = passed c z l (omega arith) b
 
     module _ (x : V) (long : x ≡ get_or T.lengths i m.null) where
-      link_back : (q : ℕ) → Link m T (get_or T.arcs i no_arc) x j here q → Back m T (j, p) (i + 1) (lab T.arcs (record { arc = i + 1; place = q }))
+      link_back : (q : ℕ) → Link m T (get_or T.arcs i no_arc) x j here q → Back m T (label j p) (i + 1) (lab T.arcs (record { arc = i + 1; place = q }))
       link_back q h =
           let P : Arc → V → V → Type 0 = λ a l z. Link m T a l j z q in
           record { here = held; low = omega arith; high = omega arith; from = refl; link = subst (λ a. P a (length_at m T.lengths (i + 1)) (val m T j p)) (sym (arc_more T.arcs i)) (subst (λ l. P (get_or T.arcs i no_arc) l (val m T j p)) (long ∙ sym (length_more m T.lengths i)) (subst (λ z. P (get_or T.arcs i no_arc) x z) is h)) }
 
-      back_link : (z : Label) → Back m T (j, p) (i + 1) z → Link m T (get_or T.arcs i no_arc) x j here z.1
+      back_link : (z : Label) → Back m T (label j p) (i + 1) z → Link m T (get_or T.arcs i no_arc) x j here z.place
       back_link z b =
-          let P : Arc → V → V → Type 0 = λ a l y. Link m T a l j y z.1 in
+          let P : Arc → V → V → Type 0 = λ a l y. Link m T a l j y z.place in
           subst (λ y. P (get_or T.arcs i no_arc) x y) (sym is) (subst (λ l. P (get_or T.arcs i no_arc) l (val m T j p)) (length_more m T.lengths i ∙ sym long) (subst (λ a. P a (length_at m T.lengths (i + 1)) (val m T j p)) (arc_more T.arcs i) b.link))
 
       pub passed_more : (above : ℕ) → Passed above i → ((q : ℕ) → ¬ Link m T (get_or T.arcs i no_arc) x j here q) → Passed above (i + 1)
       passed_more above passed none c z l h b = go (dec_lt i c)
         where
           go : Dec (i < c) → ⊥
-          go (yes q) = let e : c ≡ i + 1 = omega arith in none z.1 (back_link z (subst (λ a. Back m T (j, p) a z) e b))
+          go (yes q) = let e : c ≡ i + 1 = omega arith in none z.place (back_link z (subst (λ a. Back m T (label j p) a z) e b))
           go (no q) = passed c z l (omega arith) b
 
-      pub found : (above q : ℕ) → above ≤ i → Passed above i → Link m T (get_or T.arcs i no_arc) x j here q → Lowest (Back m T) (Home m T) (j, p) above (i + 1) (lab T.arcs (record { arc = i + 1; place = q }))
+      pub found : (above q : ℕ) → above ≤ i → Passed above i → Link m T (get_or T.arcs i no_arc) x j here q → Lowest (Back m T) (Home m T) (label j p) above (i + 1) (lab T.arcs (record { arc = i + 1; place = q }))
       found above q le passed h = record { above = omega arith; leads = link_back q h; between = λ c z l r b. passed c z l (omega arith) b }
-
-  -- after the last arc there are none
-  pub passed_end : (above i : ℕ) → length T.arcs ≤ i → Passed above i → (c : ℕ) (z : Label) → above < c → ¬ Back m T (j, p) c z
-  passed_end above i le passed c z l b = let h = b.high in passed c z l (omega arith) b

@@ -1,11 +1,14 @@
 -- Chains of steps, and the ways that they begin.
-use Rattle.std.proofs.Common.{◌≡◌, ℕ, suc, List, [], ◌∷◌, ◌++◌, length, refl, ap}
+use Rattle.std.proofs.Common.{◌≡◌, ℕ, List, [], ◌∷◌, ◌++◌, refl, ap, ◌∙◌, append_assoc}
+use Rattle.std.proofs.lemmas.List.{map-append}
 use Rattle.measure.specs.Algebra.{Algebra}
 use Rattle.walks.specs.Ways.{Soonest, Later}
 use Rattle.walks.proofs.Ways.{stepwise}
 use Rattle.sweeps.specs.declared.Arc.{Arc}
 use Rattle.tracing.specs.declared.Step.{Step}
-use Rattle.tracing.specs.Labels.{Tables, Label, lab, Back, Home}
+use Rattle.tracing.specs.declared.labels.Label.{Label}
+use Rattle.tracing.specs.Tables.{Tables}
+use Rattle.tracing.specs.Labels.{lab, Back, Home}
 use Rattle.tracing.specs.Steps.{arcs_of, end_of, WayFrom, Chain, Sound}
 
 pub end_more : (arcs : List Arc) (x : Label) (us : List Step) (t : Step) → end_of arcs x (us ++ (t ∷ [])) ≡ lab arcs t
@@ -17,16 +20,7 @@ end_join arcs x [] vs = refl
 end_join arcs x (u ∷ us) vs = end_join arcs (lab arcs u) us vs
 
 pub arcs_more : (us : List Step) (t : Step) (w : List ℕ) → arcs_of (us ++ (t ∷ [])) ++ w ≡ arcs_of us ++ (t.arc ∷ w)
-arcs_more [] t w = refl
-arcs_more (u ∷ us) t w = ap (λ z. u.arc ∷ z) (arcs_more us t w)
-
-pub arcs_join : (us vs : List Step) → arcs_of (us ++ vs) ≡ arcs_of us ++ arcs_of vs
-arcs_join [] vs = refl
-arcs_join (u ∷ us) vs = ap (λ z. u.arc ∷ z) (arcs_join us vs)
-
-pub arcs_length : (us : List Step) → length (arcs_of us) ≡ length us
-arcs_length [] = refl
-arcs_length (u ∷ us) = ap suc (arcs_length us)
+arcs_more us t w = ap (λ l. l ++ w) (map-append (λ (u : Step). u.arc) us (t ∷ [])) ∙ append_assoc (arcs_of us) (t.arc ∷ []) w
 
 module _ {V : Type 0} (m : Algebra V) (T : Tables V) where
   pub chain_next : Sound m T → (x : Label) (us : List Step) (w v : List ℕ) → Chain m T x us → Soonest (Later (Back m T) (Home m T) (end_of T.arcs x us) w) v

@@ -10,7 +10,8 @@ use Rattle.walks.specs.Labels.{WayOf}
 use Rattle.walks.specs.Labels as walks
 use Rattle.walks.proofs.Orders.{never, before_not}
 use Rattle.walks.proofs.Solving.{exactness}
-use Rattle.tracing.specs.Labels.{Tables, Held, val, Back, Home}
+use Rattle.tracing.specs.Tables.{Tables}
+use Rattle.tracing.specs.Labels.{label, Held, val, Back, Home}
 use Rattle.tracing.specs.Steps.{WayFrom}
 use Rattle.tracing.specs.Nexts.{net_of, Settled}
 use Rattle.tracing.proofs.Meaning.{within, settles, R, same_rows, found, val_at, val_in, Placed, in_val, to_way, from_way, way_held, path_of}
@@ -60,14 +61,14 @@ module _ {V : Type 0} {m : Algebra V} (laws : Laws m) (T : Tables V) (t : Table 
   lower_held p q l h = record { low = h.low; high = h.high; in_row = omega (arith, h.in_row); in_count = omega (arith, h.in_count) }
 
   -- what is the first of the ways by places is so by lengths
-  soonest_to : (p : ℕ) (v : List ℕ) → Held T j p → Soonest (WayFrom m T (j, p)) v → Soonest (WayOf m (net_of m T) T.source S (j, val m T j p)) v
-  soonest_to p v h r = record { holds = to_way laws T t set (j, p) v r.holds; first = λ u q. r.first u (from_way laws T t set (j, p) u h q) }
+  soonest_to : (p : ℕ) (v : List ℕ) → Held T j p → Soonest (WayFrom m T (label j p)) v → Soonest (WayOf m (net_of m T) T.source S (j, val m T j p)) v
+  soonest_to p v h r = record { holds = to_way laws T t set (label j p) v r.holds; first = λ u q. r.first u (from_way laws T t set (label j p) u h q) }
 
-  later_to : (p : ℕ) (w v : List ℕ) → Held T j p → Soonest (Later (Back m T) (Home m T) (j, p) w) v → Soonest (Later Wb WH (j, val m T j p) w) v
-  later_to p w v h r = record { holds = (to_way laws T t set (j, p) v r.holds.0, r.holds.1); first = λ u q. r.first u (from_way laws T t set (j, p) u h q.0, q.1) }
+  later_to : (p : ℕ) (w v : List ℕ) → Held T j p → Soonest (Later (Back m T) (Home m T) (label j p) w) v → Soonest (Later Wb WH (j, val m T j p) w) v
+  later_to p w v h r = record { holds = (to_way laws T t set (label j p) v r.holds.0, r.holds.1); first = λ u q. r.first u (from_way laws T t set (label j p) u h q.0, q.1) }
 
-  last_to : (p : ℕ) (w : List ℕ) → Held T j p → Last (Back m T) (Home m T) (j, p) w → Last Wb WH (j, val m T j p) w
-  last_to p w h r = λ u q. r u (from_way laws T t set (j, p) u h q)
+  last_to : (p : ℕ) (w : List ℕ) → Held T j p → Last (Back m T) (Home m T) (label j p) w → Last Wb WH (j, val m T j p) w
+  last_to p w h r = λ u q. r u (from_way laws T t set (label j p) u h q)
 
   -- paths by the rows of the solve are paths by the rows of the tables
   path_as : (v : List ℕ) → PathTo m (net_of m T) T.source S j v → PathTo m (net_of m T) T.source t j v
@@ -83,22 +84,22 @@ module _ {V : Type 0} {m : Algebra V} (laws : Laws m) (T : Tables V) (t : Table 
   next_some w v n = record { path = path_as v n.path; since = n.since; first = λ u p s. n.first u (as_path u p) s }
 
   -- the first way of the first length is the first path
-  pub opens : (p : ℕ) (v : List ℕ) → p ≡ 0 → Held T j p → Soonest (WayFrom m T (j, p)) v → Next m (net_of m T) T.source t j None v
-  opens p v z h r = next_none v ((found laws T t set).first j (val m T j p) v (val_in laws T t set j p h) least (soonest_to p v h r))
+  pub opens : (v : List ℕ) → Held T j 0 → Soonest (WayFrom m T (label j 0)) v → Next m (net_of m T) T.source t j None v
+  opens v h r = next_none v ((found laws T t set).first j (val m T j 0) v (val_in laws T t set j 0 h) least (soonest_to 0 v h r))
     where
-      least : (x : V) → In x (S j) → ¬ Before m x (val m T j p)
+      least : (x : V) → In x (S j) → ¬ Before m x (val m T j 0)
       least x i b =
           let q = place_of x i in
-          let l = lower q.place p q.held h (subst (λ y. Before m y (val m T j p)) (sym q.is) b) in
+          let l = lower q.place 0 q.held h (subst (λ y. Before m y (val m T j 0)) (sym q.is) b) in
           omega arith
 
   -- without a first length there is none
-  pub empty : (p : ℕ) → p ≡ 0 → ¬ Held T j p → (u : List ℕ) → PathTo m (net_of m T) T.source t j u → ¬ Since m (net_of m T) T.source t None u
-  empty p z out u r s = let q = place_of (walk_length m (net_of m T) u) (as_path u r).inside in out (lower_held p q.place (omega arith) q.held)
+  pub empty : ¬ Held T j 0 → (u : List ℕ) → PathTo m (net_of m T) T.source t j u → ¬ Since m (net_of m T) T.source t None u
+  empty out u r s = let q = place_of (walk_length m (net_of m T) u) (as_path u r).inside in out (lower_held 0 q.place (omega arith) q.held)
 
-  module _ (p : ℕ) (w : List ℕ) (way : WayFrom m T (j, p) w) where
+  module _ (p : ℕ) (w : List ℕ) (way : WayFrom m T (label j p) w) where
     held : Held T j p
-    held = way_held laws T t set (j, p) w way
+    held = way_held laws T t set (label j p) w way
 
     path : PathTo m (net_of m T) T.source S j w
     path = (path_of laws T t set j p w way).0
@@ -107,10 +108,10 @@ module _ {V : Type 0} {m : Algebra V} (laws : Laws m) (T : Tables V) (t : Table 
     is = (path_of laws T t set j p w way).1
 
     -- the next way of the same length is the next path
-    pub goes_on : (v : List ℕ) → Soonest (Later (Back m T) (Home m T) (j, p) w) v → Next m (net_of m T) T.source t j (Some w) v
+    pub goes_on : (v : List ℕ) → Soonest (Later (Back m T) (Home m T) (label j p) w) v → Next m (net_of m T) T.source t j (Some w) v
     goes_on v r = next_some w v ((found laws T t set).next_way j w v path (subst (λ z. Soonest (Later Wb WH (j, z) w) v) (sym is) (later_to p w v held r)))
 
-    module _ (last : Last (Back m T) (Home m T) (j, p) w) where
+    module _ (last : Last (Back m T) (Home m T) (label j p) w) where
       last_at : Last Wb WH (j, walk_length m (net_of m T) w) w
       last_at = subst (λ z. Last Wb WH (j, z) w) (sym is) (last_to p w held last)
 
@@ -119,7 +120,7 @@ module _ {V : Type 0} {m : Algebra V} (laws : Laws m) (T : Tables V) (t : Table 
       higher x q b = let l = lower p q.place held q.held (subst (λ y. Before m y (val m T j q.place)) is (subst (Before m (walk_length m (net_of m T) w)) (sym q.is) b)) in omega arith
 
       -- else the first way of the next length
-      pub moves_on : (v : List ℕ) → Held T j (p + 1) → Soonest (WayFrom m T (j, p + 1)) v → Next m (net_of m T) T.source t j (Some w) v
+      pub moves_on : (v : List ℕ) → Held T j (p + 1) → Soonest (WayFrom m T (label j (p + 1))) v → Next m (net_of m T) T.source t j (Some w) v
       moves_on v h r = next_some w v ((found laws T t set).next_length j (val m T j (p + 1)) w v path last_at (record {
         there = val_in laws T t set j (p + 1) h;
         after = subst (λ y. Before m y (val m T j (p + 1))) (sym is) (climbs p (p + 1) held h (omega arith));

@@ -15,7 +15,9 @@ use Rattle.walks.specs.Labels as walks
 use Rattle.walks.proofs.Labels.{next_paths}
 use Rattle.walks.proofs.Solving.{exactness, refusals, passes, joins, beginnings}
 use Rattle.sweeps.specs.Tables.{arc_at, length_at, start_of, cells, count_of, row_of}
-use Rattle.tracing.specs.Labels.{Tables, Label, Held, val, Back, Home}
+use Rattle.tracing.specs.declared.labels.Label.{Label}
+use Rattle.tracing.specs.Tables.{Tables}
+use Rattle.tracing.specs.Labels.{label, Held, val, Back, Home}
 use Rattle.tracing.specs.Steps.{WayFrom, Alive, Sound}
 use Rattle.tracing.specs.Nexts.{net_of, Settled}
 use Rattle.tracing.proofs.Cells.{cell_in}
@@ -113,26 +115,26 @@ module _ {V : Type 0} {m : Algebra V} (laws : Laws m) (T : Tables V) (t : Table 
 
   -- the label with its length
   abbrev L : Label → ℕ × V
-  L x = (x.0, val m T x.0 x.1)
+  L x = (x.node, val m T x.node x.place)
 
-  held_back : (x y : Label) (a : ℕ) → Back m T x a y → Held T y.0 y.1
-  held_back x y a b = subst (λ i. Held T i y.1) (sym b.from) b.link.start
+  held_back : (x y : Label) (a : ℕ) → Back m T x a y → Held T y.node y.place
+  held_back x y a b = subst (λ i. Held T i y.place) (sym b.from) b.link.start
 
   to_back : (x y : Label) (a : ℕ) → Back m T x a y → walks.Back m N T.source R (L x) a (L y)
   to_back x y a b = record {
     is_open = record { low = b.low; high = omega (arith, b.high, set.beside); marked = b.link.marked };
     into = b.link.into;
     from = sym b.from;
-    here = val_in x.0 x.1 b.here;
-    there = val_in y.0 y.1 (held_back x y a b);
-    sum = ap (λ i. m.plus (val m T i y.1) (length_at m T.lengths a)) b.from ∙ b.link.comes.sum;
+    here = val_in x.node x.place b.here;
+    there = val_in y.node y.place (held_back x y a b);
+    sum = ap (λ i. m.plus (val m T i y.place) (length_at m T.lengths a)) b.from ∙ b.link.comes.sum;
   }
 
-  pub to_way : (x : Label) (w : List ℕ) → WayFrom m T x w → WayOf m (net_of m T) T.source R (x.0, val m T x.0 x.1) w
+  pub to_way : (x : Label) (w : List ℕ) → WayFrom m T x w → WayOf m (net_of m T) T.source R (x.node, val m T x.node x.place) w
   to_way x [] h = (h.1, h.2)
   to_way x (a ∷ w) h = (L h.0, (to_back x h.0 a h.1.0, to_way h.0 w h.1.1))
 
-  from_back : (x : Label) (a : ℕ) (y : ℕ × V) (q : Placed y.0 y.1) → Held T x.0 x.1 → walks.Back m N T.source R (L x) a y → Back m T x a (y.0, q.place)
+  from_back : (x : Label) (a : ℕ) (y : ℕ × V) (q : Placed y.0 y.1) → Held T x.node x.place → walks.Back m N T.source R (L x) a y → Back m T x a (label y.0 q.place)
   from_back x a y q h b =
       let e : val m T (arc_at T.arcs a).start q.place ≡ y.1 = ap (λ i. val m T i q.place) b.from ∙ q.is in
       let o = b.is_open in
@@ -153,36 +155,36 @@ module _ {V : Type 0} {m : Algebra V} (laws : Laws m) (T : Tables V) (t : Table 
         };
       }
 
-  pub from_way : (x : Label) (w : List ℕ) → Held T x.0 x.1 → WayOf m (net_of m T) T.source R (x.0, val m T x.0 x.1) w → WayFrom m T x w
+  pub from_way : (x : Label) (w : List ℕ) → Held T x.node x.place → WayOf m (net_of m T) T.source R (x.node, val m T x.node x.place) w → WayFrom m T x w
   from_way x [] h r = (h, r.0, r.1)
   from_way x (a ∷ w) h r =
       let y = r.0 in
       let b = r.1.0 in
       let g = within.formed a b.is_open in
       let q = in_val y.0 y.1 (omega (arith, g.start_low, b.from)) (omega (arith, g.start_high, b.from)) b.there in
-      ((y.0, q.place), (from_back x a y q h b, from_way (y.0, q.place) w q.held (subst (λ v. WayOf m N T.source R (y.0, v) w) (sym q.is) r.1.1)))
+      (label y.0 q.place, (from_back x a y q h b, from_way (label y.0 q.place) w q.held (subst (λ v. WayOf m N T.source R (y.0, v) w) (sym q.is) r.1.1)))
 
-  pub way_held : (x : Label) (w : List ℕ) → WayFrom m T x w → Held T x.0 x.1
+  pub way_held : (x : Label) (w : List ℕ) → WayFrom m T x w → Held T x.node x.place
   way_held x [] h = h.0
   way_held x (a ∷ w) h = h.1.0.here
 
   -- a way back is a path of the label's length
-  pub path_of : (j p : ℕ) (w : List ℕ) → WayFrom m T (j, p) w → PathTo m (net_of m T) T.source R j w × (walk_length m (net_of m T) w ≡ val m T j p)
-  path_of j p w h = found.way_path j (val m T j p) w (val_in j p (way_held (j, p) w h)) (to_way (j, p) w h)
+  pub path_of : (j p : ℕ) (w : List ℕ) → WayFrom m T (label j p) w → PathTo m (net_of m T) T.source R j w × (walk_length m (net_of m T) w ≡ val m T j p)
+  path_of j p w h = found.way_path j (val m T j p) w (val_in j p (way_held (label j p) w h)) (to_way (label j p) w h)
 
   -- every label has one
-  pub alive : (j p : ℕ) → Held T j p → Alive m T (j, p)
+  pub alive : (j p : ℕ) → Held T j p → Alive m T (label j p)
   alive j p h =
       let r = (exactness laws N T.k T.source within settles.0 settles.1 j).from (val m T j p) (val_in j p h) in
       let path : PathTo m N T.source R j r.walk = record { leads = r.leads; counted = r.counted; inside = subst (λ x. In x (R j)) (sym r.is) (val_in j p h) } in
-      (r.walk, from_way (j, p) r.walk h (subst (λ x. WayOf m N T.source R (j, x) r.walk) r.is (found.path_way j r.walk path)))
+      (r.walk, from_way (label j p) r.walk h (subst (λ x. WayOf m N T.source R (j, x) r.walk) r.is (found.path_way j r.walk path)))
 
   steady_is : Steady (Back m T) (Home m T) (T.nodes * T.k)
   steady_is = record {
     once = λ x y z a w b c h. from_way y w (held_back x y a b) (found.steady.once (L x) (L y) (L z) a w (to_back x y a b) (to_back x z a c) (to_way z w h));
     numbered = λ x y a b. b.low;
     ends = λ x y a h b. found.steady.ends (L x) (L y) a (h.1, h.2) (to_back x y a b);
-    live = λ x y a b. alive y.0 y.1 (held_back x y a b);
+    live = λ x y a b. alive y.node y.place (held_back x y a b);
     few = λ x y a w b h. found.steady.few (L x) (L y) a w (to_back x y a b) (to_way y w h);
   }
 

@@ -5,7 +5,7 @@ use Rattle.walks.specs.Circuits.{NegativeCircuit}
 use Rattle.walks.specs.Method.{rows}
 use Rattle.walks.specs.Theorems.{Within}
 use Rattle.walks.proofs.Solving.{exactness, refusals}
-use Rattle.tracing.specs.Labels.{Tables}
+use Rattle.tracing.specs.Tables.{Tables}
 use Rattle.tracing.specs.Nexts.{net_of, Settled}
 use Rattle.tracing.specs.Standing.{SettledSolve, SolvesTraced}
 
@@ -43,4 +43,4 @@ module _ {V : Type 0} {m : Algebra V} (laws : Laws m) (T : Tables V) (p : ℕ) (
   }
 
 pub solves_traced : {V : Type 0} {m : Algebra V} → Laws m → SolvesTraced m
-solves_traced laws T p h j work low high room = record { tracing = record { settled = settled_tables laws T p h; low = low; high = high; room = room; at = refl }; handed_out = tt; last = refl }
+solves_traced laws T p h j work low high room = record { tracing = record { settled = settled_tables laws T p h; low = low; high = high; room = room; at = tt }; handed_out = tt; last = refl }

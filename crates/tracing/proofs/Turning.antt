@@ -1,14 +1,18 @@
 -- What the two loops of a next keep.
-use Rattle.std.proofs.Common.{◌≡◌, ℕ, ◌+◌, ◌-◌, ◌<◌, ◌≤◌, List, [], ◌∷◌, ◌++◌, length, get_or, take, drop, set, sym, refl, ap, ◌∙◌, subst, ap₂, append-nil, arith, length-append, length-set}
-use Rattle.std.proofs.lemmas.List.{take_more, take_more_set, length-take-le, take-take, drop_more, take-append-drop, get_or-take, drop_all}
+use Rattle.std.proofs.Common.{◌≡◌, ℕ, Bool, true, false, ◌+◌, ◌-◌, ◌<◌, ◌≤◌, List, [], ◌∷◌, ◌++◌, length, get_or, take, drop, set, sym, ap, ◌∙◌, subst, ap₂, append-nil, arith, length-append, length-set}
+use Rattle.std.proofs.lemmas.List.{take_more, take_more_set, length-take-le, take-take, drop_more, take-append-drop, get_or-take, take_all, drop_all, map-append, length-map}
+use Rattle.std.specs.Bool.{then_some}
 use Rattle.measure.specs.Algebra.{Algebra}
 use Rattle.walks.specs.Ways.{Soonest, Later, Last, Lowest, NoneAbove}
 use Rattle.walks.proofs.Ways.{stepwise}
 use Rattle.sweeps.specs.declared.Arc.{Arc}
+use Rattle.sweeps.specs.Tables.{Whether}
 use Rattle.tracing.specs.declared.Step.{Step}
-use Rattle.tracing.specs.Labels.{Tables, Label, lab, no_step, Sorted, Back, Home}
-use Rattle.tracing.specs.Steps.{arcs_of, end_of, WayFrom, Alive, Chain, Sound, Down, Long, Stands, Turn}
-use Rattle.tracing.proofs.Chains.{end_more, arcs_more, arcs_join, arcs_length, chain_next, chain_way, chain_more, chain_part}
+use Rattle.tracing.specs.declared.labels.Label.{Label}
+use Rattle.tracing.specs.Tables.{Tables}
+use Rattle.tracing.specs.Labels.{lab, no_step, Sorted, Back, Home}
+use Rattle.tracing.specs.Steps.{arcs_of, end_of, WayFrom, Alive, Chain, Sound, Down, Long, Stands, Turn, Descended}
+use Rattle.tracing.proofs.Chains.{end_more, arcs_more, chain_next, chain_way, chain_more, chain_part}
 
 -- the end of the first levels is the label of the last of them
 pub end_level : (arcs : List Arc) (x : Label) (work : List Step) (i : ℕ) → i < length work → end_of arcs x (take (i + 1) work) ≡ lab arcs (get_or work i no_step)
@@ -16,6 +20,9 @@ end_level arcs x work i lt = ap (end_of arcs x) (take_more work i no_step lt) �
 
 pub end_at : (arcs : List Arc) (x : Label) (work : List Step) (d : ℕ) → 1 ≤ d → d ≤ length work → end_of arcs x (take d work) ≡ lab arcs (get_or work (d - 1) no_step)
 end_at arcs x work d one le = let e : d - 1 + 1 ≡ d = omega arith in ap (λ i. end_of arcs x (take i work)) (sym e) ∙ end_level arcs x work (d - 1) (omega arith)
+
+pub end_last : (arcs : List Arc) (x : Label) (steps : List Step) → 1 ≤ length steps → end_of arcs x steps ≡ lab arcs (get_or steps (length steps - 1) no_step)
+end_last arcs x steps some = ap (end_of arcs x) (sym (take_all (length steps) steps (omega arith))) ∙ end_at arcs x steps (length steps) some (omega arith)
 
 parts : (work : List Step) (depth i : ℕ) → i < depth → depth ≤ length work → take depth work ≡ take i work ++ (get_or work i no_step ∷ drop (i + 1) (take depth work))
 parts work depth i l h =
@@ -37,9 +44,6 @@ module _ {V : Type 0} (m : Algebra V) (T : Tables V) where
   pub record Going (x : Label) (work : List Step) (d : ℕ) (y : Label) : Type 0 where
     pub size : d ≤ length work
     pub meant : Sound m T → Alive m T x → Reached x (take d work) y
-
-  pub going_none : (x : Label) (work : List Step) → Going x work 0 x
-  going_none x work = record { size = omega arith; meant = λ sound alive. record { chain = tt; is = refl; alive = alive; soonest = λ v h. h } }
 
   reach_step : Sound m T → (x y : Label) (us : List Step) (t : Step) → Reached x us y → Lowest (Back m T) (Home m T) y 0 t.arc (lab T.arcs t) → Reached x (us ++ (t ∷ [])) (lab T.arcs t)
   reach_step sound x y us t r low = record {
@@ -68,7 +72,7 @@ module _ {V : Type 0} (m : Algebra V) (T : Tables V) where
   going_full x y work d g full sound alive =
       let r = g.meant sound alive in
       let w = r.alive in
-      let e = arcs_length (take d work) in
+      let e = length-map (take d work) (λ (t : Step). t.arc) in
       let f = length-append (arcs_of (take d work)) w.0 in
       let q = length-take-le d work g.size in
       record { way = arcs_of (take d work) ++ w.0; is = chain_way m T x (take d work) w.0 r.chain (subst (λ z. WayFrom m T z w.0) (sym r.is) w.1); long = omega arith }
@@ -79,6 +83,13 @@ module _ {V : Type 0} (m : Algebra V) (T : Tables V) where
       go : (w : List ℕ) → WayFrom m T y w → ⊥
       go [] h = away h
       go (a ∷ w) h = none sound.sorted a h.0 (sound.steady.numbered y h.0 a h.1.0) h.1.0
+
+  pub going_ends : (x y : Label) (work : List Step) (d : ℕ) (b : Bool) → Going x work d y → length work ≤ d → Whether b (Home m T y) → Descended m T x work (then_some b (length work))
+  going_ends x y work d true g full h = (
+    omega arith,
+    λ sound alive. let e : d ≡ length work = (let s = g.size in omega arith) in subst (λ i. Down m T x (take i work)) e (going_home x y work d g h sound alive),
+  )
+  going_ends x y work d false g full h = going_full x y work d g full
 
   -- what is dropped of the steps is the last way of its label
   pub record Dropping (x : Label) (depth : ℕ) (work : List Step) (d : ℕ) : Type 0 where
@@ -123,7 +134,7 @@ module _ {V : Type 0} (m : Algebra V) (T : Tables V) where
         end = end_more T.arcs x (take i work) t
 
         old : arcs_of (take depth work) ≡ arcs_of (take i work) ++ ((get_or work i no_step).arc ∷ arcs_of (drop (i + 1) (take depth work)))
-        old = ap arcs_of (parts work depth i lt size) ∙ arcs_join (take i work) (get_or work i no_step ∷ drop (i + 1) (take depth work))
+        old = ap arcs_of (parts work depth i lt size) ∙ map-append (λ (t : Step). t.arc) (take i work) (get_or work i no_step ∷ drop (i + 1) (take depth work))
 
         next : (v : List ℕ) → Soonest (WayFrom m T (End x (take i work ++ (t ∷ [])))) v → Soonest (Later (Back m T) (Home m T) x (arcs_of (take depth work))) (arcs_of (take i work ++ (t ∷ [])) ++ v)
         next v h =
@@ -148,13 +159,12 @@ module _ {V : Type 0} (m : Algebra V) (T : Tables V) where
       (turn_found x depth work size i lt drops sound stands t (subst (λ z. Lowest (Back m T) (Home m T) z (get_or work i no_step).arc t.arc (lab T.arcs t)) e (low sound.sorted)))
 
   pub turn_some : (x y : Label) (depth : ℕ) (work now : List Step) (left : ℕ) (t : Step) → now ≡ work → depth ≤ length now → 0 < left → Dropping x depth now left → y ≡ end_of T.arcs x (take (left - 1) now)
-      → (Sorted T → Lowest (Back m T) (Home m T) y (get_or now (left - 1) no_step).arc t.arc (lab T.arcs t)) → Sound m T → Stands m T x (take depth work) → Turn m T x (take depth work) (take left (set now (left - 1) t))
+      → (Sorted T → Lowest (Back m T) (Home m T) y (get_or now (left - 1) no_step).arc t.arc (lab T.arcs t)) → Sound m T → Stands m T x (take depth work) → Turn m T x (take depth work) (take (left - 1 + 1) (set now (left - 1) t))
   turn_some x y depth work now left t e size pos drops is low sound stands =
       let f : left - 1 + 1 ≡ left = omega arith in
       let z = drops.size in
-      subst (λ w. Turn m T x (take depth w) (take left (set now (left - 1) t))) e
-      (subst (λ d. Turn m T x (take depth now) (take d (set now (left - 1) t))) f
-      (dropping_turns x y depth now size (left - 1) (omega arith) is (subst (Dropping x depth now) (sym f) drops) t low sound (subst (λ w. Stands m T x (take depth w)) (sym e) stands)))
+      subst (λ w. Turn m T x (take depth w) (take (left - 1 + 1) (set now (left - 1) t))) e
+      (dropping_turns x y depth now size (left - 1) (omega arith) is (subst (Dropping x depth now) (sym f) drops) t low sound (subst (λ w. Stands m T x (take depth w)) (sym e) stands))
 
   pub turn_less : (x y : Label) (depth : ℕ) (now : List Step) (left : ℕ) → depth ≤ length now → 0 < left → Dropping x depth now left → y ≡ end_of T.arcs x (take (left - 1) now)
       → (Sorted T → NoneAbove (Back m T) (Home m T) y (get_or now (left - 1) no_step).arc) → Dropping x depth now (left - 1)
@@ -162,8 +172,3 @@ module _ {V : Type 0} (m : Algebra V) (T : Tables V) where
       let f : left - 1 + 1 ≡ left = omega arith in
       let z = drops.size in
       dropping_more x y depth now size (left - 1) (omega arith) is (subst (Dropping x depth now) (sym f) drops) none
-
-  pub turn_none : (x : Label) (depth : ℕ) (work now : List Step) (left : ℕ) → now ≡ work → left ≡ 0 → Dropping x depth now left → Sound m T → Stands m T x (take depth work) → Last (Back m T) (Home m T) x (arcs_of (take depth work))
-  turn_none x depth work now left e z drops =
-      subst (λ w. Sound m T → Stands m T x (take depth w) → Last (Back m T) (Home m T) x (arcs_of (take depth w))) e
-      (subst (Dropping x depth now) z drops).meant

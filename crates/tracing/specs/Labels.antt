@@ -1,43 +1,36 @@
 -- The labels of the caller's tables, and the arcs that lead back from one to another.
-use Rattle.std.specs.Prelude.{◌≡◌, ℕ, ◌+◌, ◌*◌, ◌<◌, ◌≤◌, Bool, true, false, List, length, Some, None, Option, slice_index_or}
+use Rattle.std.specs.Prelude.{◌≡◌, ℕ, ◌+◌, ◌<◌, ◌≤◌, true, List, length, Some, None, Option, slice_index_or}
 use Rattle.measure.specs.Algebra.{Algebra, Joinable}
 use Rattle.walks.specs.Ways.{Lowest, NoneAbove}
 use Rattle.sweeps.specs.declared.Arc.{Arc}
 use Rattle.sweeps.specs.Tables.{arc_at, length_at, start_of, count_of}
 use Rattle.tracing.specs.declared.Step.{Step}
+use Rattle.tracing.specs.declared.labels.Label.{Label}
 use Rattle.tracing.specs.declared.lent.Lent.{Lent}
-
--- what a trace reads
-pub record Tables (V : Type 0) : Type 0 where
-  pub nodes : ℕ
-  pub k : ℕ
-  pub source : ℕ
-  pub arcs : List Arc
-  pub lengths : List V
-  pub values : List V
-  pub counts : List ℕ
-
-abbrev pub tables : {V : Type 0} → ℕ → ℕ → ℕ → List Arc → List V → List V → List ℕ → Tables V
-tables n k s arcs lengths values counts = record { nodes = n; k = k; source = s; arcs = arcs; lengths = lengths; values = values; counts = counts }
+use Rattle.tracing.specs.Tables.{Tables, tables, Sizes}
 
 abbrev pub read : {V : Type 0} → Lent V → Tables V
-read l = tables l.nodes l.k l.source l.arcs.now l.lengths.now l.values.now l.counts.now
+read l = tables l.nodes l.order.k l.order.source l.arcs.now l.lengths.now l.values.now l.counts.now
 
--- a node, and a place of its row
-abbrev pub Label : Type 0
-Label = ℕ × ℕ
+-- the tables are taken if they have these sizes
+abbrev pub Taken : {V : Type 0} → Tables V → Option (Lent V) → Type 0
+Taken T (Some lent) = read lent ≡ T
+Taken T None = ¬ Sizes T
+
+abbrev pub label : ℕ → ℕ → Label
+label j p = record { node = j; place = p }
 
 -- the label that a step leads back to
 abbrev pub lab : List Arc → Step → Label
-lab arcs t = ((arc_at arcs t.arc).start, t.place)
+lab arcs t = label (arc_at arcs t.arc).start t.place
 
 abbrev pub no_step : Step
 no_step = record { arc = 0; place = 0 }
 
--- the arcs 1 to low end below the node, and those past high do not
-pub record Split (arcs : List Arc) (node low high : ℕ) : Type 0 where
-  pub below : (c : ℕ) → 1 ≤ c → c ≤ low → (arc_at arcs c).end < node
-  pub beyond : (c : ℕ) → high < c → c ≤ length arcs → node ≤ (arc_at arcs c).end
+-- the arcs 1 to r end below the node, and those past r do not
+pub record Split (arcs : List Arc) (node r : ℕ) : Type 0 where
+  pub below : (c : ℕ) → 1 ≤ c → c ≤ r → (arc_at arcs c).end < node
+  pub beyond : (c : ℕ) → r < c → c ≤ length arcs → node ≤ (arc_at arcs c).end
 
 -- ends do not descend along the arc table
 abbrev pub SortedArcs : List Arc → Type 0
@@ -45,21 +38,9 @@ SortedArcs arcs = (a b : ℕ) → 1 ≤ a → a ≤ b → b ≤ length arcs → 
 
 pub record Splits (arcs : List Arc) (node r : ℕ) : Type 0 where
   pub within : r ≤ length arcs
-  pub meant : SortedArcs arcs → Split arcs node r r
+  pub meant : SortedArcs arcs → Split arcs node r
 
 module _ {V : Type 0} (T : Tables V) where
-  -- what the tables' sizes are to be
-  pub record Sizes : Type 0 where
-    pub nodes : T.nodes ≤ 1000
-    pub row : T.k ≤ 20
-    pub beside : length T.arcs ≤ length T.lengths
-    pub rows : T.nodes * T.k ≤ length T.values
-    pub held : T.nodes ≤ length T.counts
-
-  abbrev pub Sized : Bool → Type 0
-  Sized true = Sizes
-  Sized false = ¬ Sizes
-
   abbrev pub Sorted : Type 0
   Sorted = SortedArcs T.arcs
 
@@ -79,9 +60,13 @@ module _ {V : Type 0} (m : Algebra V) (T : Tables V) where
   abbrev pub val : ℕ → ℕ → V
   val j p = slice_index_or T.values (start_of T.k j + p) m.null
 
-  abbrev pub Valued : ℕ → ℕ → Option V → Type 0
-  Valued j p (Some x) = Held T j p × (x ≡ val j p)
-  Valued j p None = ¬ Held T j p
+  abbrev pub Valued : Label → Option V → Type 0
+  Valued x (Some z) = Held T x.node x.place × (z ≡ val x.node x.place)
+  Valued x None = ¬ Held T x.node x.place
+
+  -- label y has a length that, joined with x, is z
+  abbrev pub Start : Label → V → V → Type 0
+  Start y x z = Held T y.node y.place × Comes m (val y.node y.place) x z
 
   -- the length at place q of the arc's start comes over the arc, of length x, to the length z of node j
   pub record Link (arc : Arc) (x : V) (j : ℕ) (z : V) (q : ℕ) : Type 0 where
@@ -96,15 +81,15 @@ module _ {V : Type 0} (m : Algebra V) (T : Tables V) where
 
   -- arc a leads back from label x to label y
   pub record Back (x : Label) (a : ℕ) (y : Label) : Type 0 where
-    pub here : Held T x.0 x.1
+    pub here : Held T x.node x.place
     pub low : 0 < a
     pub high : a ≤ length T.arcs
-    pub from : y.0 ≡ (arc_at T.arcs a).start
-    pub link : Link (arc_at T.arcs a) (length_at m T.lengths a) x.0 (val x.0 x.1) y.1
+    pub from : y.node ≡ (arc_at T.arcs a).start
+    pub link : Link (arc_at T.arcs a) (length_at m T.lengths a) x.node (val x.node x.place) y.place
 
   -- null at the source
   abbrev pub Home : Label → Type 0
-  Home x = Held T x.0 x.1 × (x.0 ≡ T.source) × (val x.0 x.1 ≡ m.null)
+  Home x = Held T x.node x.place × (x.node ≡ T.source) × (val x.node x.place ≡ m.null)
 
   -- the lowest arc above a that leads back from x, if there is one
   abbrev pub Further : Label → ℕ → Option Step → Type 0

@@ -1,3 +1,4 @@
+pub mod Tables
 pub mod Labels
 pub mod Steps
 pub mod Nexts

@@ -1,5 +1,5 @@
 -- Where a cursor stands, and what the call next means.
-use Rattle.std.specs.Prelude.{◌≡◌, ℕ, ◌*◌, ◌≤◌, false, ◌⊎◌, List, [], ◌∷◌, reverse, length, take, drop, Some, None, Option}
+use Rattle.std.specs.Prelude.{◌≡◌, ℕ, ◌*◌, ◌≤◌, ◌⊎◌, List, [], ◌∷◌, reverse, length, take, drop, Some, None, Option}
 use Rattle.measure.specs.Algebra.{Algebra}
 use Rattle.walks.specs.Networks.{Network}
 use Rattle.walks.specs.Walks.{walk_length}
@@ -11,11 +11,11 @@ use Rattle.walks.specs.Paths.{Ahead, PathTo, Since, Next}
 use Rattle.sweeps.specs.Tables.{InOrder, RowsHeld}
 use Rattle.tracing.specs.declared.Step.{Step}
 use Rattle.tracing.specs.declared.Cursor.{Cursor}
-use Rattle.tracing.specs.Labels.{Tables}
+use Rattle.tracing.specs.Tables.{Tables}
 use Rattle.tracing.specs.Nexts.{net_of, Tracing, last_of}
 
 abbrev pub new_cursor : ℕ → Cursor
-new_cursor j = record { target = j; place = 0; depth = 0; begun = false }
+new_cursor j = record { target = j; last = None }
 
 -- the path handed out last, of a list with the newest first
 abbrev pub newest : List (List ℕ) → Option (List ℕ)
@@ -47,9 +47,9 @@ Segments {V} m = (net : Network V) (s : ℕ) (t : Table V) (j : ℕ) (ws : List 
 module _ {V : Type 0} (m : Algebra V) (T : Tables V) where
   -- the tables are as the session with the rows t left them, and these paths are handed out, the newest first
   pub record Standing (t : Table V) (handed : List (List ℕ)) (c : Cursor) (work : List Step) : Type 0 where
-    pub tracing : Tracing m T t c.target c.place c.depth c.begun work
+    pub tracing : Tracing m T t c.target c.last work
     pub handed_out : HandedOut m (net_of m T) T.source t c.target handed
-    pub last : newest handed ≡ last_of m T c.begun c.depth work
+    pub last : newest handed ≡ last_of m T c.last work
 
   -- a path is handed out: the first after those before
   pub record Hands (t : Table V) (handed : List (List ℕ)) (target : ℕ) (c' : Cursor) (work' : List Step) (path' : List ℕ) (count : ℕ) (x : V) : Type 0 where

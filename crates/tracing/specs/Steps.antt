@@ -1,15 +1,16 @@
 -- The steps of a path in the work table, and what the two loops of a next come to.
-use Rattle.std.specs.Prelude.{◌≡◌, ℕ, ◌*◌, ◌≤◌, List, [], ◌∷◌, ◌++◌, length, take, Some, None, Option}
+use Rattle.std.specs.Prelude.{◌≡◌, ℕ, ◌*◌, ◌≤◌, List, [], ◌∷◌, ◌++◌, length, map, take, Some, None, Option}
 use Rattle.measure.specs.Algebra.{Algebra}
 use Rattle.walks.specs.Ways.{Soonest, Way, Later, Last, Steady}
 use Rattle.sweeps.specs.declared.Arc.{Arc}
 use Rattle.tracing.specs.declared.Step.{Step}
-use Rattle.tracing.specs.Labels.{Tables, Label, lab, Sorted, Back, Home}
+use Rattle.tracing.specs.declared.labels.Label.{Label}
+use Rattle.tracing.specs.Tables.{Tables}
+use Rattle.tracing.specs.Labels.{lab, Sorted, Back, Home}
 
 -- the arcs of the steps, the last arc of the path first
 abbrev pub arcs_of : List Step → List ℕ
-arcs_of [] = []
-arcs_of (t ∷ ts) = t.arc ∷ arcs_of ts
+arcs_of ts = map (λ t. t.arc) ts
 
 -- the label that the steps lead back to from x
 abbrev pub end_of : List Arc → Label → List Step → Label

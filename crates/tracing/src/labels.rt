@@ -1,83 +1,82 @@
-// Labels: a node and a place in its row.
+// Labels, and the arcs that lead back from one to another.
 ghost use Rattle.std.specs.Prelude.{◌≡◌};
 ghost use Rattle.sweeps.specs.Tables.{Whether};
-ghost use Rattle.tracing.specs.Labels.{read, lab, Sizes, Comes, Valued, Linked, Home};
+ghost use Rattle.tracing.specs.Labels.{read, lab, Start, Valued, Linked, Home};
 
 use super::Step;
 use super::lent::Lent;
 use measure::Measure;
-use std::cmp::Ordering;
 use sweeps::Arc;
 
-// Whether two lengths are the same.
-fn same<M: Measure>(x: M, y: M) -> bool
-    ensures { Whether result (x ≡ y) }
-{
-    matches!(x.compare(&y), Ordering::Equal)
+// A node and a place in its row.
+#[derive(Clone, Copy)]
+pub struct Label {
+    pub node: usize,
+    pub place: usize,
 }
 
-// Whether a length joined with that of an arc is another.
-fn comes<M: Measure>(there: M, x: M, here: M) -> bool
-    ensures { Whether result (Comes M.Measure.algebra there x here) }
-{
-    match there.join(&x) {
-        Some(y) => same(y, here),
-        None => false,
+impl<M: Measure> Lent<'_, M> {
+    // The length at a label.
+    pub fn value(&self, label: Label) -> Option<M>
+        ensures { Valued M.Measure.algebra (read self.now) label result }
+    {
+        let Label { node, place } = label;
+        let k = self.order.k;
+        if node == 0 || node > self.nodes || place >= k || place >= self.counts[node - 1] {
+            return None;
+        }
+        Some(self.values[(node - 1) * k + place])
     }
-}
 
-// The length at a place of a node's row.
-pub fn value<M: Measure>(lent: Lent<M>, node: usize, place: usize) -> Option<M>
-    requires sizes { Sizes (read lent) }
-    ensures { Valued M.Measure.algebra (read lent.entry) node place result }
-{
-    if node == 0 || node > lent.nodes {
-        return None;
+    // Whether a label has a length that, joined with that of an arc, is another.
+    fn comes(&self, label: Label, x: M, here: M) -> bool
+        ensures { Whether result (Start M.Measure.algebra (read self.now) label x here) }
+    {
+        self.value(label)
+            .and_then(|there| there.join(&x))
+            .is_some_and(|sum| sum.compare(&here).is_eq())
     }
-    if place >= lent.k || place >= lent.counts[node - 1] {
-        return None;
-    }
-    Some(lent.values[(node - 1) * lent.k + place])
-}
 
-// The place, in the row of the arc's start, of the length that comes over the arc to the length `here` of a node.
-pub fn link<M: Measure>(lent: Lent<M>, arc: Arc, x: M, node: usize, here: M) -> Option<usize>
-    requires sizes { Sizes (read lent) }
-    ensures { Linked M.Measure.algebra (read lent.entry) arc x node here result }
-{
-    if !arc.open || arc.end as usize != node {
-        return None;
+    // The place, in the row of the arc's start, of the length that comes over the arc to the length `here` of a node.
+    pub fn link(&self, arc: Arc, x: M, node: usize, here: M) -> Option<usize>
+        ensures { Linked M.Measure.algebra (read self.now) arc x node here result }
+    {
+        if !arc.open || arc.end as usize != node {
+            return None;
+        }
+        let node = arc.start as usize;
+        (0..self.order.k).find(|place| self.comes(
+            Label {
+                node,
+                place: *place,
+            },
+            x,
+            here,
+        ))
     }
-    for q in 0..lent.k {
-        if let Some(there) = value(lent, arc.start as usize, q) {
-            if comes(there, x, here) {
-                return Some(q);
-            }
+
+    // Whether a label is null at the source.
+    pub fn home(&self, label: Label) -> bool
+        ensures { Whether result (Home M.Measure.algebra (read self.now) label) }
+    {
+        label.node == self.order.source
+            && self
+                .value(label)
+                .is_some_and(|x| x.compare(&M::null()).is_eq())
+    }
+
+    // The label that a step leads back to.
+    pub fn back(&self, step: Step) -> Label
+        ensures { result ≡ lab self.now.arcs.now step }
+    {
+        let node = if step.arc == 0 || step.arc > self.arcs.len() {
+            0
+        } else {
+            self.arcs[step.arc - 1].start as usize
+        };
+        Label {
+            node,
+            place: step.place,
         }
     }
-    None
-}
-
-// Whether a label is null at the source.
-pub fn home<M: Measure>(lent: Lent<M>, node: usize, place: usize) -> bool
-    requires sizes { Sizes (read lent) }
-    ensures { Whether result (Home M.Measure.algebra (read lent.entry) (node, place)) }
-{
-    if node != lent.source {
-        return false;
-    }
-    match value(lent, node, place) {
-        Some(x) => same(x, M::null()),
-        None => false,
-    }
-}
-
-// The label that a step leads back to.
-pub fn label(arcs: &[Arc], step: Step) -> (usize, usize)
-    ensures { result ≡ lab arcs.now step }
-{
-    if step.arc == 0 || step.arc > arcs.len() {
-        return (0, step.place);
-    }
-    (arcs[step.arc - 1].start as usize, step.place)
 }

@@ -20,11 +20,16 @@ pub struct Step {
     pub place: usize,
 }
 
-// Where a trace to a node stands: whether a path was handed out and, of the last one, the place of its length in the node's row and the number of its arcs.
+// A path that was handed out: the place of its length in the target's row, and the number of its arcs.
+#[derive(Clone, Copy)]
+pub(crate) struct Handed {
+    pub(crate) place: usize,
+    pub(crate) depth: usize,
+}
+
+// Where a trace to a node stands: the path handed out last, if there is one.
 #[derive(Clone, Copy)]
 pub struct Cursor {
     pub(crate) target: usize,
-    pub(crate) place: usize,
-    pub(crate) depth: usize,
-    pub(crate) begun: bool,
+    pub(crate) last: Option<Handed>,
 }

@@ -1,68 +1,62 @@
 // The next path, in the work table and then in the path table.
 ghost use Rattle.std.specs.Prelude.{◌≤◌, length};
-ghost use Rattle.tracing.specs.Labels.{read, Sizes};
+ghost use Rattle.tracing.specs.Labels.{read};
 ghost use Rattle.tracing.specs.Nexts.{Opened, Advanced, Written};
 
-use super::Step;
-use super::labels::{label, value};
+use super::labels::Label;
 use super::lent::Lent;
-use super::turns::{descend, turn};
+use super::{Handed, Step};
 use measure::Measure;
 
-// Finds the first path of the length at a place, if there is a length, and tells how many arcs it has.
-fn open<M: Measure>(lent: Lent<M>, node: usize, place: usize, work: &mut [Step]) -> Option<usize>
-    requires sizes { Sizes (read lent) }
-    ensures { Opened M.Measure.algebra (read lent.entry) node place work.old work.new result }
-{
-    match value(lent, node, place) {
-        None => None,
-        Some(_) => descend(lent, node, place, work),
+impl<M: Measure> Lent<'_, M> {
+    // Finds the first path of the length at a label, if there is a length.
+    fn open(&self, at: Label, work: &mut [Step]) -> Option<Handed>
+        ensures { Opened M.Measure.algebra (read self.now) at work.old work.new result }
+    {
+        self.value(at)?;
+        let depth = self.descend(at, work)?;
+        Some(Handed {
+            place: at.place,
+            depth,
+        })
     }
-}
 
-// Finds the next path, and tells the place of its length and how many arcs it has.
-pub fn advance<M: Measure>(
-    lent: Lent<M>,
-    node: usize,
-    place: usize,
-    depth: usize,
-    begun: bool,
-    work: &mut [Step],
-) -> Option<(usize, usize)>
-    requires sizes { Sizes (read lent) }
-    ensures { Advanced M.Measure.algebra (read lent.entry) node place depth begun work.old work.new result }
-{
-    if !begun {
-        return match open(lent, node, place, work) {
-            Some(levels) => Some((place, levels)),
-            None => None,
+    // Finds the path to a node after the last one, or the first.
+    pub fn advance(&self, node: usize, last: Option<Handed>, work: &mut [Step]) -> Option<Handed>
+        ensures { Advanced M.Measure.algebra (read self.now) node last work.old work.new result }
+    {
+        let Some(Handed { place, depth }) = last else {
+            return self.open(Label { node, place: 0 }, work);
         };
-    }
-    if depth > work.len() || place >= lent.k {
-        return None;
-    }
-    match turn(lent, node, place, depth, work) {
-        Some(kept) => {
-            let at = label(lent.arcs, work[kept - 1]);
-            match descend(lent, at.0, at.1, &mut work[kept..]) {
-                Some(more) => Some((place, kept + more)),
-                None => None,
-            }
+        if depth > work.len() || place >= self.order.k {
+            return None;
         }
-        None => match open(lent, node, place + 1, work) {
-            Some(levels) => Some((place + 1, levels)),
-            None => None,
-        },
+        match self.turn(Label { node, place }, depth, work) {
+            Some(kept) => {
+                let at = self.back(work[kept - 1]);
+                let more = self.descend(at, &mut work[kept..])?;
+                Some(Handed {
+                    place,
+                    depth: kept + more,
+                })
+            }
+            None => self.open(
+                Label {
+                    node,
+                    place: place + 1,
+                },
+                work,
+            ),
+        }
     }
 }
 
 // Writes the arcs of a path from the source on.
-pub fn write_path(work: &[Step], depth: usize, path: &mut [usize])
-    requires steps { depth ≤ length work.now }
-    requires cells { depth ≤ length path.old }
-    ensures { Written work.now depth path.old path.new }
+pub fn write_path(steps: &[Step], path: &mut [usize])
+    requires { length steps.now ≤ length path.old }
+    ensures { Written steps.now path.old path.new }
 {
-    for i in 0..depth {
-        path[i] = work[depth - 1 - i].arc;
+    for (i, step) in steps.iter().rev().enumerate() {
+        path[i] = step.arc;
     }
 }

@@ -54,22 +54,15 @@ fn rows() -> [Sum; 12] {
     ]
 }
 
-fn order() -> Result<Order, Fail> {
-    match Order::new(3, 1) {
-        Ok(order) => Ok(order),
-        Err(_) => Err(Fail::new("no order")),
-    }
-}
-
-// The count and the length of the next path, or two zeros without one.
+// The count and the length of the next path.
 fn step(
     cursor: &mut Cursor,
     order: Order,
     counts: &[usize],
     work: &mut [Step],
     path: &mut [usize],
-) -> (usize, i64) {
-    match cursor.next(
+) -> Option<(usize, i64)> {
+    let (count, length) = cursor.next(
         NODES,
         order,
         &arcs(),
@@ -78,46 +71,44 @@ fn step(
         counts,
         work,
         path,
-    ) {
-        Some(found) => (found.0, found.1.value),
-        None => (0, 0),
-    }
+    )?;
+    Some((count, length.value))
 }
 
 #[test]
 fn paths_come_in_order(rt: HostRuntime) -> Result<(), Fail> {
-    let order = order()?;
+    let order = Order::new(3, 1)?;
     let counts = [1, 3, 3, 3];
-    let mut work = [Step { arc: 0, place: 0 }; 12];
+    let mut work = [Step::default(); 12];
     let mut path = [0; 12];
     let mut cursor = Cursor::new(4);
     assert_eq!(rt;
         step(&mut cursor, order, &counts, &mut work, &mut path),
-        (3, 8)
+        Some((3, 8))
     );
     assert_eq!(rt; &path[..5], [3, 1, 5, 0, 0].as_slice());
     assert_eq!(rt;
         step(&mut cursor, order, &counts, &mut work, &mut path),
-        (2, 9)
+        Some((2, 9))
     );
     assert_eq!(rt; &path[..5], [2, 5, 5, 0, 0].as_slice());
     assert_eq!(rt;
         step(&mut cursor, order, &counts, &mut work, &mut path),
-        (2, 9)
+        Some((2, 9))
     );
     assert_eq!(rt; &path[..5], [3, 6, 5, 0, 0].as_slice());
     assert_eq!(rt;
         step(&mut cursor, order, &counts, &mut work, &mut path),
-        (5, 10)
+        Some((5, 10))
     );
     assert_eq!(rt; &path[..5], [3, 1, 4, 1, 5].as_slice());
     assert_eq!(rt;
         step(&mut cursor, order, &counts, &mut work, &mut path),
-        (0, 0)
+        None
     );
     assert_eq!(rt;
         step(&mut cursor, order, &counts, &mut work, &mut path),
-        (0, 0)
+        None
     );
     assert_eq!(rt; &path[..5], [3, 1, 4, 1, 5].as_slice());
     Ok(())
@@ -125,20 +116,20 @@ fn paths_come_in_order(rt: HostRuntime) -> Result<(), Fail> {
 
 #[test]
 fn one_length_has_one_path(rt: HostRuntime) -> Result<(), Fail> {
-    let order = order()?;
+    let order = Order::new(3, 1)?;
     let counts = [1, 0, 1, 0];
-    let mut work = [Step { arc: 0, place: 0 }; 12];
+    let mut work = [Step::default(); 12];
     let mut path = [7; 2];
     let mut cursor = Cursor::new(3);
     assert_eq!(rt;
         step(&mut cursor, order, &counts, &mut work, &mut path),
-        (1, 2)
+        Some((1, 2))
     );
     assert_eq!(rt; path[0], 3);
     assert_eq!(rt; path[1], 7);
     assert_eq!(rt;
         step(&mut cursor, order, &counts, &mut work, &mut path),
-        (0, 0)
+        None
     );
     Ok(())
 }

@@ -1,15 +1,7 @@
-use Rattle.std.proofs.Common.{arith}
-use Rattle.tracing.proofs.Cells.{split_none, split_up, split_down, split_same}
+use Rattle.std.proofs.Common.{ltb, rules}
+use Rattle.std.proofs.lemmas.List.Sorted.{IsPartitionPoint-from_clause}
+use Rattle.tracing.proofs.Cells.{splits_at}
 use Rattle.tracing.proofs.blocks.before_node.Goals as goal
 
-pub loop-low-init : goal.loop-low-init
-loop-low-init c = (omega arith, omega arith, split_none _ _)
-
-pub loop-low-preserved-then-arcs-middle : goal.loop-low-preserved-then-arcs-middle
-loop-low-preserved-then-arcs-middle c = (omega arith, c.loop-low.invariant.1, split_up _ _ _ _ _ (omega arith) c.loop-low.invariant.2 c.if-arcs-middle.true)
-
-pub loop-low-preserved : goal.loop-low-preserved
-loop-low-preserved c = (omega arith, omega arith, split_down _ _ _ _ _ (omega arith) c.loop-low.invariant.2 c.if-arcs-middle.false)
-
 pub returns : goal.returns
-returns c = record { within = omega arith; meant = split_same _ _ _ _ (omega arith) c.loop-low.invariant.2 }
+returns c = splits_at _ _ _ c.partition_point.ensures.bound (λ parted. IsPartitionPoint-from_clause (λ a. ltb a.end c.args.node) _ _ c.partition_point.ensures.partitioned parted (λ a r q k. search rules))

@@ -1,6 +1,6 @@
-use Rattle.std.proofs.Common.{◌≡◌, ℕ, ◌-◌, ◌<◌, get_or, drop}
-use Rattle.tracing.specs.Labels.{no_step}
+use Rattle.std.proofs.Common.{◌≡◌, length, take, drop, reverse}
+use Rattle.tracing.specs.Steps.{arcs_of}
 use Rattle.tracing.proofs.nexts.write_path.Given as goal
 
 abbrev pub invariant-loop-i : goal.invariant-loop-i
-invariant-loop-i l = ((q : ℕ) → q < l.i → get_or l.path q 0 ≡ (get_or l.work (l.depth - 1 - q) no_step).arc) × (drop l.depth l.path ≡ drop l.depth l.initial.path)
+invariant-loop-i l = (take (length l.yielded) l.path ≡ take (length l.yielded) (reverse (arcs_of l.steps))) × (drop (length l.steps) l.path ≡ drop (length l.steps) l.initial.path)

@@ -1,8 +1,6 @@
+use Rattle.std.proofs.Common.{arith}
 use Rattle.session.proofs.Holding.{relength_holds}
 use Rattle.session.proofs.stages.Draft.relength.Goals as goal
 
-pub returns : goal.returns
-returns g c = record {
-  done = c.set_length.ensures;
-  meant = λ net arcs h. relength_holds g.M.Measure.algebra net _ arcs _ _ _ _ _ h c.set_length.ensures;
-}
+pub returns-clause-meant : goal.returns-clause-meant
+returns-clause-meant g c = λ net arcs h. relength_holds g.M.Measure.algebra net _ arcs _ _ _ (omega arith) (omega arith) (omega arith) h

@@ -1,4 +1,4 @@
-use Rattle.std.proofs.Common.{min, length, refl, ap, ◌∙◌}
+use Rattle.std.proofs.Common.{refl}
 use Rattle.session.proofs.Answering.{solve_done, solve_meant}
 use Rattle.session.proofs.stages.Draft.solve.Goals as goal
 
@@ -7,7 +7,7 @@ returns-in-Ok g c =
     let m = g.M.Measure.algebra in
     record {
       done = solve_done m c.args.self c.args.order c.args.values.now c.args.counts.now _ c.solve.new.values c.solve.new.counts _ _ _ c.in-Ok.ensures (refl, refl, refl, refl);
-      meant = λ net h. solve_meant m c.args.self c.args.order c.args.values.now c.args.counts.now _ c.solve.new.values c.solve.new.counts g.met.M.Measure.lawful net c.args.arcs.now c.args.lengths.now h c.min-most.result _ (c.min-most.ensures ∙ ap (λ i. min i (length c.args.lengths.now)) c.min.ensures) c.in-Ok.ensures (refl, refl, refl, refl);
+      meant = λ net h. solve_meant m c.args.self c.args.order c.args.values.now c.args.counts.now _ c.solve.new.values c.solve.new.counts g.met.M.Measure.lawful net c.args.arcs.now c.args.lengths.now h _ _ _ (c.parts.ensures.meant net h) c.in-Ok.ensures (refl, refl, refl, refl);
     }
 
 pub returns-in-Err : goal.returns-in-Err
@@ -15,5 +15,5 @@ returns-in-Err g c =
     let m = g.M.Measure.algebra in
     record {
       done = solve_done m c.args.self c.args.order c.args.values.now c.args.counts.now _ c.solve.new.values c.solve.new.counts _ _ _ c.in-Err.ensures (refl, refl);
-      meant = λ net h. solve_meant m c.args.self c.args.order c.args.values.now c.args.counts.now _ c.solve.new.values c.solve.new.counts g.met.M.Measure.lawful net c.args.arcs.now c.args.lengths.now h c.min-most.result _ (c.min-most.ensures ∙ ap (λ i. min i (length c.args.lengths.now)) c.min.ensures) c.in-Err.ensures (refl, refl);
+      meant = λ net h. solve_meant m c.args.self c.args.order c.args.values.now c.args.counts.now _ c.solve.new.values c.solve.new.counts g.met.M.Measure.lawful net c.args.arcs.now c.args.lengths.now h _ _ _ (c.parts.ensures.meant net h) c.in-Err.ensures (refl, refl);
     }

@@ -1,20 +1,24 @@
-use Rattle.std.proofs.Common.{◌≡◌, ◌-◌, ◌≤◌, None, Ok, sym, refl, ap, ◌∙◌, subst, arith}
-use Rattle.std.proofs.lemmas.Bool.Decides.{nat_tests}
+use Rattle.std.proofs.Common.{◌≡◌, ◌+◌, ◌-◌, ◌<◌, Ok, ap, ◌∙◌, subst, arith}
 use Rattle.std.specs.List.{slice_get}
-use Rattle.sweeps.specs.Tables.{RowsHeld}
-use Rattle.session.specs.Drafts.{judged}
-use Rattle.session.specs.Settled.{length_verdict, Decided}
+use Rattle.sweeps.specs.Tables.{start_of, count_of}
+use Rattle.session.proofs.Reading.{copied_at, past_row, in_row, answered}
 use Rattle.session.proofs.stages.Settled.length.Goals as goal
+use Rattle.session.proofs.stages.Settled.length.Goals.{then-node-counts-via-then-node-counts, then-node-counts-via-else-node-counts+then-place-counts}
 
-pub returns : goal.returns
-returns g c =
-    let v : length_verdict c.args.self.now.draft.nodes c.args.self.now.order.k c.args.node c.args.place ≡ None = grind (arith, nat_tests) in
-    record {
-      decided = subst (λ o. Decided o (Ok c.length_at.result)) (sym v) refl;
-      meant = λ net k s t arcs lengths h.
-          let n = h.draft.nodes in
-          let w = h.width in
-          let high : c.args.node ≤ net.nodes = omega arith in
-          let there = c.length_at.ensures net.nodes t (subst (λ i. RowsHeld g.M.Measure.algebra net.nodes i c.args.values.now c.args.counts.now t) (sym w) h.held) high in
-          ap Ok there ∙ ap (λ o. judged o (slice_get (t c.args.node) (c.args.place - 1))) (sym v ∙ (λ j. length_verdict (n j) (w j) c.args.node c.args.place));
-    }
+pub returns-then-node-counts-clause-meant : goal.returns-then-node-counts-clause-meant
+returns-then-node-counts-clause-meant g c = λ net k s t arcs lengths h.
+    let n = h.draft.nodes in
+    let w = h.width in
+    let past : count_of c.args.counts.now c.args.node < c.args.place = elim c.then-node-counts.branch [
+      | then-node-counts-via-then-node-counts w ↦ absurd (omega (arith, h.held.count_cells, w.if-node-counts.true))
+      | then-node-counts-via-else-node-counts+then-place-counts w ↦ omega (arith, w.if-place-counts.true)
+    ] in
+    ap Ok (past_row g.M.Measure.algebra _ _ _ _ _ h.held c.args.node (omega arith) (omega arith) c.args.place past) ∙ answered g.M.Measure.algebra _ _ t c.args.node c.args.place (omega arith) (omega arith) (omega arith) (omega arith)
+
+pub returns-clause-meant : goal.returns-clause-meant
+returns-clause-meant g c = λ net k s t arcs lengths h.
+    let n = h.draft.nodes in
+    let w = h.width in
+    let e = c.copied.ensures ∙ copied_at _ _ _ c.get.ensures.lookup in
+    let there = subst (λ i. c.copied.result ≡ slice_get c.args.values.now (start_of i c.args.node + (c.args.place - 1))) w e in
+    ap Ok (there ∙ in_row g.M.Measure.algebra _ _ _ _ _ h.held c.args.node (omega arith) (omega arith) c.args.place (omega arith) (omega arith)) ∙ answered g.M.Measure.algebra _ _ t c.args.node c.args.place (omega arith) (omega arith) (omega arith) (omega arith)

@@ -1,4 +1,3 @@
-use Rattle.std.proofs.Common.{min, length, ap, ◌∙◌}
 use Rattle.session.proofs.Following.{next_done, next_meant}
 use Rattle.session.proofs.stages.Trace.next.Goals as goal
 
@@ -9,5 +8,5 @@ returns g c =
       done = next_done m c.args.self.now c.args.work.now c.args.path.now c.next.new.self c.next.new.work c.next.new.path _ c.next.result c.next.ensures;
       meant = λ net k s t target handed h.
           next_meant m c.args.self.now c.args.work.now c.args.path.now c.next.new.self c.next.new.work c.next.new.path net k s t target handed c.args.arcs.now c.args.lengths.now c.args.values.now c.args.counts.now h
-          c.min-most.result c.next.result (c.min-most.ensures ∙ ap (λ i. min i (length c.args.lengths.now)) c.min.ensures) c.next.ensures;
+          c.parts.result.0.now c.parts.result.1.now c.next.result (c.parts.ensures.meant net h.settled.draft) c.next.ensures;
     }
