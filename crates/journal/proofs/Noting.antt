@@ -20,17 +20,6 @@ use Rattle.journal.specs.Replays.{shown, log_of, Follows, Replayed}
 use Rattle.journal.proofs.Answering.{new_holds, leaves}
 use Rattle.journal.proofs.Entries.{still_held}
 
--- the entry that is noted for a call
-pub noted : {V : Type 0} (n : ℕ) (call : Call V) (a : Answer V) (e : Entry V) (values : List V) (counts path : List ℕ) (told cells many : ℕ)
-    → e.call ≡ call → e.answer ≡ a → told ≡ nodes_said n a → cells ≡ told * width call → many ≡ path_said a
-    → vec_items e.values ≡ take cells values → vec_items e.counts ≡ take told counts → vec_items e.path ≡ take many path
-    → (z : Sizes) (arcs : List Arc) (lengths : List V) (work : List Step) → shown z e ≡ logged n call a z (tables arcs lengths values counts work path)
-noted {V} n call a e values counts path told cells many c b t w y v k p z arcs lengths work =
-    let in_values : vec_items e.values ≡ take (nodes_said n a * width call) values = v ∙ ap (λ i. take i values) (w ∙ ap (λ i. i * width call) t) in
-    let in_counts : vec_items e.counts ≡ take (nodes_said n a) counts = k ∙ ap (λ i. take i counts) t in
-    let in_path : vec_items e.path ≡ take (path_said a) path = p ∙ ap (λ i. take i path) y in
-    λ i. record { call = c i; answer = b i; lent = lent_to (c i) z; rows = λ j. row_of (width (c i)) j (in_values i) (in_counts i); path = in_path i }
-
 module _ {V : Type 0} (m : Algebra V) (n : ℕ) (z : Sizes) where
   pub record Noting (calls : List (Call V)) (entries : List (Entry V)) (s : Stage) (T : Tables V) : Type 0 where
     pub kept : Kept m n (log_of z entries)

@@ -28,13 +28,13 @@ module _ {V : Type 0} (m : Algebra V) (s : Settled) (arcs : List Arc) (lengths v
   before = tables arcs lengths values counts work path
 
   abbrev verdict : Option Refusal
-  verdict = trace_verdict s.draft.nodes s.order.k s.null target (length (take (w' - 0) work)) (length (take (p' - 0) path))
+  verdict = trace_verdict s.draft.nodes s.order.k s.null target (length (take w' work)) (length (take p' path))
 
-  lent_work : length (take (w' - 0) work) ≡ min w (length work)
-  lent_work = length-take (w' - 0) work ∙ (let z : min (w' - 0) (length work) ≡ min w (length work) = omega arith in z)
+  lent_work : length (take w' work) ≡ min w (length work)
+  lent_work = length-take w' work ∙ (let z : min w' (length work) ≡ min w (length work) = omega arith in z)
 
-  lent_path : length (take (p' - 0) path) ≡ min p (length path)
-  lent_path = length-take (p' - 0) path ∙ (let z : min (p' - 0) (length path) ≡ min p (length path) = omega arith in z)
+  lent_path : length (take p' path) ≡ min p (length path)
+  lent_path = length-take p' path ∙ (let z : min p' (length path) ≡ min p (length path) = omega arith in z)
 
   -- the verdict over the session is that over the network, the rows and the cells that are lent
   as_lent : (n k : ℕ) → s.draft.nodes ≡ n → s.order.k ≡ k → verdict ≡ trace_verdict n k s.null target (min w (length work)) (min p (length path))

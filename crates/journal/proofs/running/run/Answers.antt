@@ -3,7 +3,7 @@ use Rattle.journal.proofs.Answering.{begun, answered, one_answered, all_answered
 use Rattle.journal.proofs.running.run.Goals as goal
 
 pub loop-i-init : goal.loop-i-init
-loop-i-init g c = (begun _ _ _ c.in-Ok.draft _ refl c.in-Ok.ensures.1 c.in-Ok.ensures.2 c.in-Ok.ensures.3, refl)
+loop-i-init g c = (begun _ _ _ c.in_ok-draft.draft _ refl c.in_ok-draft.ensures.1 c.in_ok-draft.ensures.2 c.in_ok-draft.ensures.3, refl)
 
 pub loop-i-preserved : goal.loop-i-preserved
 loop-i-preserved g c = (
@@ -15,4 +15,4 @@ loop-i-preserved g c = (
 )
 
 pub returns : goal.returns
-returns g c = record { ends = (c.in-Ok.ensures.0, omega arith, all_answered _ _ _ _ _ c.loop-i.i _ _ (omega arith) c.loop-i.invariant.0); frame = c.loop-i.invariant.1 }
+returns g c = record { ends = (c.in_ok-draft.ensures.0, omega arith, all_answered _ _ _ _ _ c.loop-i.i _ _ (omega arith) c.loop-i.invariant.0); frame = c.loop-i.invariant.1 }
