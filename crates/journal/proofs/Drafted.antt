@@ -9,8 +9,9 @@ use Rattle.session.specs.Nets.{Net}
 use Rattle.session.specs.Drafts.{judged, DraftHolds, put_verdict, PutDone, PutMeant, relength_verdict, RelengthDone, RelengthMeant, mark_verdict, MarkDone}
 use Rattle.session.proofs.Holding.{mark_holds}
 use Rattle.journal.specs.declared.calls.Call.TheVariants.{Put, Relength, Close, Open}
+use Rattle.journal.specs.declared.calls.Answer.TheVariants.{Numbered}
 use Rattle.journal.specs.declared.stages.Stage.TheVariants.{Drafting}
-use Rattle.journal.specs.Answers.{is_circuit, as_numbered, as_done}
+use Rattle.journal.specs.Answers.{is_circuit, told, as_done}
 use Rattle.journal.specs.Logs.{same, drafting, rows}
 use Rattle.journal.specs.Performs.{Tables, tables, Taken}
 use Rattle.journal.proofs.Entries.{either_way}
@@ -22,11 +23,11 @@ module _ {V : Type 0} (m : Algebra V) (d : Draft) (arcs : List Arc) (lengths val
   pub put_taken : (start end : ℕ) (x : V) (r : Result ℕ Refusal) (d' : Draft) (arcs' : List Arc) (lengths' : List V)
       → PutDone m d arcs lengths start end x r d' arcs' lengths'
       → ((net : Net V) → DraftHolds m net d arcs lengths → PutMeant m net start end x r d' arcs' lengths')
-      → Taken m (Drafting d) before (Put start end x) (as_numbered r) (Drafting d') (tables arcs' lengths' values counts work path)
+      → Taken m (Drafting d) before (Put start end x) (told Numbered r) (Drafting d') (tables arcs' lengths' values counts work path)
   put_taken start end x (Ok i) d' arcs' lengths' done meant = record {
     step = λ n log o kept.
         let h = o.holds in (
-          (record { taken = ap (λ k. same k drafting) o.at; answered = ap as_numbered (done.answer ∙ (λ j. judged (put_verdict m (h.nodes j) (h.count j) (h.last j) (length arcs) (length lengths) start end x) (h.count j + 1))) }, kept),
+          (record { taken = ap (λ k. same k drafting) o.at; answered = ap (told Numbered) (done.answer ∙ (λ j. judged (put_verdict m (h.nodes j) (h.count j) (h.last j) (length arcs) (length lengths) start end x) (h.count j + 1))) }, kept),
           record { at = refl; holds = meant _ h },
           inr (refl, refl, refl),
         );
@@ -34,7 +35,7 @@ module _ {V : Type 0} (m : Algebra V) (d : Draft) (arcs : List Arc) (lengths val
   put_taken start end x (Err why) d' arcs' lengths' done meant = record {
     step = λ n log o kept.
         let h = o.holds in (
-          (record { taken = ap (λ k. same k drafting) o.at; answered = ap as_numbered (done.answer ∙ (λ j. judged (put_verdict m (h.nodes j) (h.count j) (h.last j) (length arcs) (length lengths) start end x) (h.count j + 1))) }, kept),
+          (record { taken = ap (λ k. same k drafting) o.at; answered = ap (told Numbered) (done.answer ∙ (λ j. judged (put_verdict m (h.nodes j) (h.count j) (h.last j) (length arcs) (length lengths) start end x) (h.count j + 1))) }, kept),
           record { at = o.at; holds = meant _ h },
           inr (sym (either_way (is_circuit why) (rows log)), refl, refl),
         );

@@ -14,7 +14,7 @@ use Rattle.journal.specs.declared.calls.Call.{Call}
 use Rattle.journal.specs.declared.calls.Call.TheVariants.{Put, Relength, Close, Open, Solve, Length, Trace, Next, Finish, Reopen}
 use Rattle.journal.specs.declared.calls.Answer.{Answer}
 use Rattle.journal.specs.declared.calls.Answer.TheVariants.{Numbered}
-use Rattle.journal.specs.Answers.{accepted, as_numbered, as_done}
+use Rattle.journal.specs.Answers.{accepted, told, as_done}
 use Rattle.journal.specs.Logs.{Logged, changed, network}
 use Rattle.journal.specs.Histories.{NoneAfter}
 
@@ -81,18 +81,18 @@ module _ {V : Type 0} (m : Algebra V) where
   mark_fits count a r e t = go (outside count a) refl
     where
       go : (b : Bool) → outside count a ≡ b → (1 ≤ a) × (a ≤ count)
-      go true f = absurd (let g = e ∙ ap (λ b. as_done {V = V} (judged (cond b (Some NoSuchArc) None) tt)) f in let h = sym t ∙ ap accepted g in let z : ◌≡◌ {A = ℕ} 0 1 = cc in omega arith)
+      go true f = absurd (let g = e ∙ ap (λ b. as_done {V = V} (judged (cond b (Some NoSuchArc) None) tt)) f in let h = sym t ∙ ap accepted g in cc)
       go false f = (grind (arith, nat_tests), grind (arith, nat_tests))
 
   pub relength_fits : (count a : ℕ) (x : V) (r : Answer V) → r ≡ as_done (judged (relength_verdict m count a x) tt) → accepted r ≡ true → (1 ≤ a) × (a ≤ count)
   relength_fits count a x r e t = go (outside count a) refl
     where
       go : (b : Bool) → outside count a ≡ b → (1 ≤ a) × (a ≤ count)
-      go true f = absurd (let g = e ∙ ap (λ b. as_done {V = V} (judged (cond b (Some NoSuchArc) (cond (ltb (10 ^ 9) (m.magnitude x)) (Some TooLong) None)) tt)) f in let h = sym t ∙ ap accepted g in let z : ◌≡◌ {A = ℕ} 0 1 = cc in omega arith)
+      go true f = absurd (let g = e ∙ ap (λ b. as_done {V = V} (judged (cond b (Some NoSuchArc) (cond (ltb (10 ^ 9) (m.magnitude x)) (Some TooLong) None)) tt)) f in let h = sym t ∙ ap accepted g in cc)
       go false f = (grind (arith, nat_tests), grind (arith, nat_tests))
 
-  pub put_number : (w : Option Refusal) (i : ℕ) (r : Answer V) → r ≡ as_numbered (judged w i) → accepted r ≡ true → r ≡ Numbered i
-  put_number (Some why) i r e t = absurd (let h = sym t ∙ ap accepted e in let z : ◌≡◌ {A = ℕ} 0 1 = cc in omega arith)
+  pub put_number : (w : Option Refusal) (i : ℕ) (r : Answer V) → r ≡ told Numbered (judged w i) → accepted r ≡ true → r ≡ Numbered i
+  put_number (Some why) i r e t = absurd (let h = sym t ∙ ap accepted e in cc)
   put_number None i r e t = e
 
   pub same_number : (r : Answer V) (i j : ℕ) → r ≡ Numbered i → r ≡ Numbered j → i ≡ j

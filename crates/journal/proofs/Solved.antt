@@ -29,14 +29,14 @@ use Rattle.journal.proofs.RowCells.{held_before, cleared_held, reread, reads}
 
 -- an answer that gives a settled session came of a solve that began
 begun : {V : Type 0} (m : Algebra V) (d : Draft) (o : Order) (values : List V) (counts : List ℕ) (w : Option Refusal) (p : Settled × Found) (ys : List V) (cs : List ℕ) → Given m d o values counts w (Ok p) ys cs → w ≡ None
-begun m d o values counts (Some why) p ys cs g = absurd (let e = g.0 in let z : ◌≡◌ {A = ℕ} 0 1 = cc in omega arith)
+begun m d o values counts (Some why) p ys cs g = absurd (let e = g.0 in cc)
 begun m d o values counts None p ys cs g = refl
 
 -- no solve that does not begin is refused by a circuit
 no_circuit : (a b : Bool) (why : Refusal) → cond a (Some NoSuchNode) (cond b (Some ShortTables) None) ≡ Some why → is_circuit why ≡ false
 no_circuit true b why e = let f : why ≡ NoSuchNode = cc in ap is_circuit f
 no_circuit false true why e = let f : why ≡ ShortTables = cc in ap is_circuit f
-no_circuit false false why e = absurd (let z : ◌≡◌ {A = ℕ} 0 1 = cc in omega arith)
+no_circuit false false why e = absurd cc
 
 module _ {V : Type 0} (m : Algebra V) (d : Draft) (o : Order) (v c : ℕ) (arcs : List Arc) (lengths values : List V) (counts : List ℕ) (work : List Step) (path : List ℕ)
     (v' c' : ℕ) (cut_v : v' ≡ min v (length values)) (cut_c : c' ≡ min c (length counts)) (ys : List V) (cs : List ℕ) where

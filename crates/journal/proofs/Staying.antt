@@ -14,20 +14,20 @@ use Rattle.journal.specs.Histories.{ExactRows, RowsStayExact}
 -- stages that are the same
 same_is : (k i : Kind) → same k i ≡ true → k ≡ i
 same_is drafting drafting e = refl
-same_is drafting resting e = absurd (let z : ◌≡◌ {A = ℕ} 0 1 = cc in omega arith)
-same_is drafting tracing e = absurd (let z : ◌≡◌ {A = ℕ} 0 1 = cc in omega arith)
-same_is resting drafting e = absurd (let z : ◌≡◌ {A = ℕ} 0 1 = cc in omega arith)
+same_is drafting resting e = absurd cc
+same_is drafting tracing e = absurd cc
+same_is resting drafting e = absurd cc
 same_is resting resting e = refl
-same_is resting tracing e = absurd (let z : ◌≡◌ {A = ℕ} 0 1 = cc in omega arith)
-same_is tracing drafting e = absurd (let z : ◌≡◌ {A = ℕ} 0 1 = cc in omega arith)
-same_is tracing resting e = absurd (let z : ◌≡◌ {A = ℕ} 0 1 = cc in omega arith)
+same_is resting tracing e = absurd cc
+same_is tracing drafting e = absurd cc
+same_is tracing resting e = absurd cc
 same_is tracing tracing e = refl
 
 resting_apart : (k : Kind) → same k resting ≡ true → ¬ (k ≡ drafting)
-resting_apart k e d = let f = same_is k resting e in let z : ◌≡◌ {A = ℕ} 0 1 = cc in omega arith
+resting_apart k e d = let f = same_is k resting e in cc
 
 tracing_apart : (k : Kind) → same k tracing ≡ true → ¬ (k ≡ drafting)
-tracing_apart k e d = let f = same_is k tracing e in let z : ◌≡◌ {A = ℕ} 0 1 = cc in omega arith
+tracing_apart k e d = let f = same_is k tracing e in cc
 
 -- a choice between two that are the same
 either : {X : Type 0} (b : Bool) (x y : X) → x ≡ y → y ≡ cond b x y
@@ -37,9 +37,9 @@ either false x y e = refl
 module _ {V : Type 0} (m : Algebra V) where
   -- an accepted solve
   solved : (w : Option Refusal) (net : Net V) (order : Order) (l : Logged V) → accepted l.answer ≡ true → SolveRight m w net order l → ExactRows m net record { width = order.k; source = order.source; at = l.rows }
-  solved (Some why) net order l took r = absurd (let e = sym took ∙ ap accepted r in let z : ◌≡◌ {A = ℕ} 0 1 = cc in omega arith)
+  solved (Some why) net order l took r = absurd (let e = sym took ∙ ap accepted r in cc)
   solved None net order l took (inl r) = record { sound = r.sound; exact = r.exact }
-  solved None net order l took (inr r) = absurd (let e = sym took ∙ ap accepted r.answer in let z : ◌≡◌ {A = ℕ} 0 1 = cc in omega arith)
+  solved None net order l took (inr r) = absurd (let e = sym took ∙ ap accepted r.answer in cc)
 
   module _ (n : ℕ) (l : Logged V) (log : List (Logged V)) (before : ¬ (stage log ≡ drafting) → ExactRows m (network n log) (rows log)) where
     abbrev net : Net V

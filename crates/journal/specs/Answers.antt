@@ -1,5 +1,5 @@
 -- Answers, by how the calls give them.
-use Rattle.std.specs.Prelude.{ℕ, Bool, true, false, List, ◌∷◌, Ok, Err, Option, Result}
+use Rattle.std.specs.Prelude.{ℕ, Bool, true, false, List, ◌∷◌, Ok, Err, Result}
 use Rattle.sweeps.specs.declared.refusal.Refusal.{Refusal}
 use Rattle.sweeps.specs.declared.refusal.Refusal.TheVariants.{NodeCount, ArcEnd, SelfArc, ArcOrder, TooLong, TablesFull, NoSuchArc, RowWidth, NoSuchNode, ShortTables, NegativeCircuit, NoSuchPlace, NullCircuit, ShortTraceTables}
 use Rattle.journal.specs.declared.calls.Answer.{Answer}
@@ -23,17 +23,13 @@ is_circuit NullCircuit = false
 is_circuit ShortTraceTables = false
 
 module _ {V : Type 0} where
-  abbrev pub as_numbered : Result ℕ Refusal → Answer V
-  as_numbered (Ok i) = Numbered i
-  as_numbered (Err why) = Refused why
+  -- that the call is refused, or f of what it gave
+  abbrev pub told : {T : Type 0} → (T → Answer V) → Result T Refusal → Answer V
+  told f (Ok x) = f x
+  told f (Err why) = Refused why
 
   abbrev pub as_done : Result (Unit {0}) Refusal → Answer V
-  as_done (Ok u) = Done
-  as_done (Err why) = Refused why
-
-  abbrev pub as_value : Result (Option V) Refusal → Answer V
-  as_value (Ok v) = Value v
-  as_value (Err why) = Refused why
+  as_done = told (λ u. Done)
 
   abbrev pub accepted : Answer V → Bool
   accepted (Refused why) = false
