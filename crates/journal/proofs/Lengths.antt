@@ -41,7 +41,7 @@ module _ {V : Type 0} (m : Algebra V) where
               let e = length_kept m net.lengths (x ∷ []) a (let b = beside m n log in omega arith) in
               subst (λ y. LengthAs y (l ∷ log)) (sym e)
               (unmoved _ l log
-              (λ g. ⊎_elim (λ p. le (let f : a ≡ length net.arcs + 1 = same_number m l.answer a _ p.2.number number in omega arith)) (λ p. cc (p.is)) g.1)
+              (λ g. ⊎_elim (λ p. le (let f : a ≡ length net.arcs + 1 = same_number m l.answer a _ p.2.number number in omega arith)) (λ p. cc) g.1)
               (before (omega arith)))
       length_by (Relength b x) is took r high = go (ℕ_discrete a b)
         where
@@ -55,32 +55,32 @@ module _ {V : Type 0} (m : Algebra V) where
           go (no ne) =
               subst (λ y. LengthAs y (l ∷ log)) (sym (length_other m net.lengths a b x fits.0 ne))
               (unmoved _ l log
-              (λ g. ⊎_elim (λ p. cc (p.2.is)) (λ p. ne (let y = p.is in cc)) g.1)
+              (λ g. ⊎_elim (λ p. cc) (λ p. ne (cc)) g.1)
               (before high))
       length_by (Close b) is took r high =
-          unmoved _ l log (λ g. ⊎_elim (λ p. cc (p.2.is)) (λ p. cc (p.is)) g.1)
+          unmoved _ l log (λ g. ⊎_elim (λ p. cc) (λ p. cc) g.1)
           (before (omega (arith, length-set net.arcs (b - 1) (marked false (arc_at net.arcs b)))))
       length_by (Open b) is took r high =
-          unmoved _ l log (λ g. ⊎_elim (λ p. cc (p.2.is)) (λ p. cc (p.is)) g.1)
+          unmoved _ l log (λ g. ⊎_elim (λ p. cc) (λ p. cc) g.1)
           (before (omega (arith, length-set net.arcs (b - 1) (marked true (arc_at net.arcs b)))))
       length_by (Solve order v c) is took r high =
-          unmoved _ l log (λ g. ⊎_elim (λ p. cc (p.2.is)) (λ p. cc (p.is)) g.1) (before high)
+          unmoved _ l log (λ g. ⊎_elim (λ p. cc) (λ p. cc) g.1) (before high)
       length_by (Length j place) is took r high =
-          unmoved _ l log (λ g. ⊎_elim (λ p. cc (p.2.is)) (λ p. cc (p.is)) g.1) (before high)
+          unmoved _ l log (λ g. ⊎_elim (λ p. cc) (λ p. cc) g.1) (before high)
       length_by (Trace j w p) is took r high =
-          unmoved _ l log (λ g. ⊎_elim (λ p. cc (p.2.is)) (λ p. cc (p.is)) g.1) (before high)
+          unmoved _ l log (λ g. ⊎_elim (λ p. cc) (λ p. cc) g.1) (before high)
       length_by Next is took r high =
-          unmoved _ l log (λ g. ⊎_elim (λ p. cc (p.2.is)) (λ p. cc (p.is)) g.1) (before high)
+          unmoved _ l log (λ g. ⊎_elim (λ p. cc) (λ p. cc) g.1) (before high)
       length_by Finish is took r high =
-          unmoved _ l log (λ g. ⊎_elim (λ p. cc (p.2.is)) (λ p. cc (p.is)) g.1) (before high)
+          unmoved _ l log (λ g. ⊎_elim (λ p. cc) (λ p. cc) g.1) (before high)
       length_by Reopen is took r high =
-          unmoved _ l log (λ g. ⊎_elim (λ p. cc (p.2.is)) (λ p. cc (p.is)) g.1) (before high)
+          unmoved _ l log (λ g. ⊎_elim (λ p. cc) (λ p. cc) g.1) (before high)
 
       length_if : (b : Bool) → accepted l.answer ≡ b → Answered m net (rows log) (target log) (handed log) l.call l → a ≤ length (cond b (changed l.call net) net).arcs → LengthAs (length_at m (cond b (changed l.call net) net).lengths a) (l ∷ log)
       length_if true e r high = length_by l.call refl e r high
       length_if false e r high =
           unmoved _ l log
-          (λ g. ⊎_elim (λ p. let y = ap accepted p.2.number in cc) (λ p. cc (p.taken)) g.1)
+          (λ g. ⊎_elim (λ p. cc (ap accepted p.2.number)) (λ p. cc) g.1)
           (before high)
 
     given : (n : ℕ) (log : List (Logged V)) → Kept m n log → 1 ≤ a → a ≤ length (network n log).arcs → LengthAs (length_at m (network n log).lengths a) log

@@ -44,7 +44,7 @@ module _ {V : Type 0} (m : Algebra V) where
     closing l log p = (λ e. here _ _ l log p, λ w. refl)
 
     opening : (l : Logged V) (log : List (Logged V)) → Made (Open a) l → ClosedAs true (l ∷ log)
-    opening l log p = (λ e. absurd cc, λ w. ⊎_elim (λ c. absurd (let x = p.is in let y = c.is in cc)) (λ z. absurd (z.0 p)) (which _ _ l log w))
+    opening l log p = (λ e. cc, λ w. ⊎_elim (λ c. cc) (λ z. absurd (z.0 p)) (which _ _ l log w))
 
     module _ (n : ℕ) (l : Logged V) (log : List (Logged V)) (kept : Kept m n log) (low : 1 ≤ a) (before : a ≤ length (network n log).arcs → ClosedAs (arc_at (network n log).arcs a).«open» log) where
       abbrev net : Net V
@@ -54,22 +54,22 @@ module _ {V : Type 0} (m : Algebra V) where
       closed_by (Put start end x) is took r high = go (dec_lt (length net.arcs) a)
         where
           no_close : ¬ Made (Close a) l
-          no_close p = let y = p.is in cc
+          no_close p = cc
 
           no_open : ¬ Made (Open a) l
-          no_open p = let y = p.is in cc
+          no_open p = cc
 
           go : Dec (length net.arcs < a) → ClosedAs (arc_at (net.arcs ++ new_arc start end ∷ []) a).«open» (l ∷ log)
           go (yes lt) =
               let new : a ≡ length net.arcs + 1 = omega (arith, length-append net.arcs (new_arc start end ∷ [])) in
               let e = ap (λ (r : Arc). r.«open») (arc_new net.arcs (new_arc start end) a new) in
               subst (λ b. ClosedAs b (l ∷ log)) (sym e)
-              (λ f. absurd cc, λ w. ⊎_elim (λ c. absurd (no_close c)) (λ z. absurd (let k = known n log kept z.1 in omega arith)) (which _ _ l log w))
+              (λ f. cc, λ w. ⊎_elim (λ c. absurd (no_close c)) (λ z. absurd (let k = known n log kept z.1 in omega arith)) (which _ _ l log w))
           go (no le) =
               let e = ap (λ (r : Arc). r.«open») (arc_kept net.arcs (new_arc start end ∷ []) a (omega arith)) in
               subst (λ b. ClosedAs b (l ∷ log)) (sym e) (unmarked _ l log no_close no_open (before (omega arith)))
       closed_by (Relength b x) is took r high =
-          unmarked _ l log (λ p. cc (p.is)) (λ p. cc (p.is)) (before high)
+          unmarked _ l log (λ p. cc) (λ p. cc) (before high)
       closed_by (Close b) is took r high = go (ℕ_discrete a b)
         where
           fits : (1 ≤ b) × (b ≤ length net.arcs)
@@ -82,7 +82,7 @@ module _ {V : Type 0} (m : Algebra V) where
           go (no ne) =
               let f = ap (λ (r : Arc). r.«open») (arc_other net.arcs a b (marked false (arc_at net.arcs b)) fits.0 ne) in
               subst (λ x. ClosedAs x (l ∷ log)) (sym f)
-              (unmarked _ l log (λ p. ne (let y = p.is in cc)) (λ p. cc (p.is))
+              (unmarked _ l log (λ p. ne (cc)) (λ p. cc)
               (before (omega (arith, length-set net.arcs (b - 1) (marked false (arc_at net.arcs b))))))
       closed_by (Open b) is took r high = go (ℕ_discrete a b)
         where
@@ -96,24 +96,24 @@ module _ {V : Type 0} (m : Algebra V) where
           go (no ne) =
               let f = ap (λ (r : Arc). r.«open») (arc_other net.arcs a b (marked true (arc_at net.arcs b)) fits.0 ne) in
               subst (λ x. ClosedAs x (l ∷ log)) (sym f)
-              (unmarked _ l log (λ p. cc (p.is)) (λ p. ne (let y = p.is in cc))
+              (unmarked _ l log (λ p. cc) (λ p. ne (cc))
               (before (omega (arith, length-set net.arcs (b - 1) (marked true (arc_at net.arcs b))))))
       closed_by (Solve order v c) is took r high =
-          unmarked _ l log (λ p. cc (p.is)) (λ p. cc (p.is)) (before high)
+          unmarked _ l log (λ p. cc) (λ p. cc) (before high)
       closed_by (Length j place) is took r high =
-          unmarked _ l log (λ p. cc (p.is)) (λ p. cc (p.is)) (before high)
+          unmarked _ l log (λ p. cc) (λ p. cc) (before high)
       closed_by (Trace j w p) is took r high =
-          unmarked _ l log (λ p. cc (p.is)) (λ p. cc (p.is)) (before high)
+          unmarked _ l log (λ p. cc) (λ p. cc) (before high)
       closed_by Next is took r high =
-          unmarked _ l log (λ p. cc (p.is)) (λ p. cc (p.is)) (before high)
+          unmarked _ l log (λ p. cc) (λ p. cc) (before high)
       closed_by Finish is took r high =
-          unmarked _ l log (λ p. cc (p.is)) (λ p. cc (p.is)) (before high)
+          unmarked _ l log (λ p. cc) (λ p. cc) (before high)
       closed_by Reopen is took r high =
-          unmarked _ l log (λ p. cc (p.is)) (λ p. cc (p.is)) (before high)
+          unmarked _ l log (λ p. cc) (λ p. cc) (before high)
 
       closed_if : (b : Bool) → accepted l.answer ≡ b → Answered m net (rows log) (target log) (handed log) l.call l → a ≤ length (cond b (changed l.call net) net).arcs → ClosedAs (arc_at (cond b (changed l.call net) net).arcs a).«open» (l ∷ log)
       closed_if true e r high = closed_by l.call refl e r high
-      closed_if false e r high = unmarked _ l log (λ p. cc (p.taken)) (λ p. cc (p.taken)) (before high)
+      closed_if false e r high = unmarked _ l log (λ p. cc) (λ p. cc) (before high)
 
     closed : (n : ℕ) (log : List (Logged V)) → Kept m n log → 1 ≤ a → a ≤ length (network n log).arcs → ClosedAs (arc_at (network n log).arcs a).«open» log
     closed n [] kept low high = absurd (omega arith)

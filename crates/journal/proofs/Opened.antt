@@ -41,7 +41,7 @@ module _ {V : Type 0} (m : Algebra V) (s : Settled) (arcs : List Arc) (lengths v
   as_lent n k e f = λ j. trace_verdict (e j) (f j) s.null target (lent_work j) (lent_path j)
 
   opened_by : (v : Option Refusal) (t : Tracer) → verdict ≡ v → TraceDone v s target (Ok t) → Taken m (Resting s) before (Trace target w p) Done (Tracing t) before
-  opened_by (Some why) t e done = absurd cc
+  opened_by (Some why) t e done = cc
   opened_by None t e done = record {
     step = λ n log o kept.
         let h = o.holds.holds in

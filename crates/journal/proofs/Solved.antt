@@ -36,7 +36,7 @@ begun m d o values counts None p ys cs g = refl
 no_circuit : (a b : Bool) (why : Refusal) → cond a (Some NoSuchNode) (cond b (Some ShortTables) None) ≡ Some why → is_circuit why ≡ false
 no_circuit true b why e = let f : why ≡ NoSuchNode = cc in ap is_circuit f
 no_circuit false true why e = let f : why ≡ ShortTables = cc in ap is_circuit f
-no_circuit false false why e = absurd cc
+no_circuit false false why e = cc
 
 module _ {V : Type 0} (m : Algebra V) (d : Draft) (o : Order) (v c : ℕ) (arcs : List Arc) (lengths values : List V) (counts : List ℕ) (work : List Step) (path : List ℕ)
     (v' c' : ℕ) (cut_v : v' ≡ min v (length values)) (cut_c : c' ≡ min c (length counts)) (ys : List V) (cs : List ℕ) where

@@ -14,13 +14,13 @@ use Rattle.journal.specs.Histories.{ExactRows, RowsStayExact}
 -- stages that are the same
 same_is : (k i : Kind) → same k i ≡ true → k ≡ i
 same_is drafting drafting e = refl
-same_is drafting resting e = absurd cc
-same_is drafting tracing e = absurd cc
-same_is resting drafting e = absurd cc
+same_is drafting resting e = cc
+same_is drafting tracing e = cc
+same_is resting drafting e = cc
 same_is resting resting e = refl
-same_is resting tracing e = absurd cc
-same_is tracing drafting e = absurd cc
-same_is tracing resting e = absurd cc
+same_is resting tracing e = cc
+same_is tracing drafting e = cc
+same_is tracing resting e = cc
 same_is tracing tracing e = refl
 
 resting_apart : (k : Kind) → same k resting ≡ true → ¬ (k ≡ drafting)
