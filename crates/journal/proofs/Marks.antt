@@ -3,7 +3,7 @@ use Rattle.std.proofs.Common.{◌≡◌, ℕ, ◌+◌, ◌-◌, ◌<◌, ◌≤�
 use native.Mathlib.Decide.{dec_lt, ℕ_discrete}
 use Rattle.measure.specs.Algebra.{Algebra}
 use Rattle.sweeps.specs.declared.Arc.{Arc}
-use Rattle.sweeps.specs.Tables.{arc_at}
+use Rattle.sweeps.specs.Tables.{no_arc, arc_at}
 use Rattle.session.specs.Nets.{Net, new_arc, marked}
 use Rattle.journal.specs.declared.calls.Call.{Call}
 use Rattle.journal.specs.declared.calls.Call.TheVariants.{Put, Relength, Close, Open, Solve, Length, Trace, Next, Finish, Reopen}
@@ -11,7 +11,7 @@ use Rattle.journal.specs.Answers.{accepted}
 use Rattle.journal.specs.Logs.{Logged, changed, network, rows, target, handed}
 use Rattle.journal.specs.Promise.{Answered, Kept}
 use Rattle.journal.specs.Histories.{NoneAfter, Made, ClosedExactly}
-use Rattle.journal.proofs.Lasting.{here, later, which, arc_kept, arc_new, arc_set, arc_other, mark_fits, beside, grows}
+use Rattle.journal.proofs.Lasting.{here, later, which, item_kept, item_new, item_set, item_other, mark_fits, beside, grows}
 
 module _ {V : Type 0} (m : Algebra V) where
   module _ (a : ℕ) where
@@ -62,11 +62,11 @@ module _ {V : Type 0} (m : Algebra V) where
           go : Dec (length net.arcs < a) → ClosedAs (arc_at (net.arcs ++ new_arc start end ∷ []) a).«open» (l ∷ log)
           go (yes lt) =
               let new : a ≡ length net.arcs + 1 = omega (arith, length-append net.arcs (new_arc start end ∷ [])) in
-              let e = ap (λ (r : Arc). r.«open») (arc_new net.arcs (new_arc start end) a new) in
+              let e = ap (λ (r : Arc). r.«open») (item_new no_arc net.arcs (new_arc start end) a new) in
               subst (λ b. ClosedAs b (l ∷ log)) (sym e)
               (λ f. cc, λ w. ⊎_elim (λ c. absurd (no_close c)) (λ z. absurd (let k = known n log kept z.1 in omega arith)) (which _ _ l log w))
           go (no le) =
-              let e = ap (λ (r : Arc). r.«open») (arc_kept net.arcs (new_arc start end ∷ []) a (omega arith)) in
+              let e = ap (λ (r : Arc). r.«open») (item_kept no_arc net.arcs (new_arc start end ∷ []) a (omega arith)) in
               subst (λ b. ClosedAs b (l ∷ log)) (sym e) (unmarked _ l log no_close no_open (before (omega arith)))
       closed_by (Relength b x) is took r high =
           unmarked _ l log (λ p. cc) (λ p. cc) (before high)
@@ -77,10 +77,10 @@ module _ {V : Type 0} (m : Algebra V) where
 
           go : Dec (a ≡ b) → ClosedAs (arc_at (set net.arcs (b - 1) (marked false (arc_at net.arcs b))) a).«open» (l ∷ log)
           go (yes e) =
-              let f = ap (λ i. (arc_at (set net.arcs (b - 1) (marked false (arc_at net.arcs b))) i).«open») e ∙ ap (λ (r : Arc). r.«open») (arc_set net.arcs b (marked false (arc_at net.arcs b)) fits.0 fits.1) in
+              let f = ap (λ i. (arc_at (set net.arcs (b - 1) (marked false (arc_at net.arcs b))) i).«open») e ∙ ap (λ (r : Arc). r.«open») (item_set no_arc net.arcs b (marked false (arc_at net.arcs b)) fits.0 fits.1) in
               subst (λ x. ClosedAs x (l ∷ log)) (sym f) (closing l log record { is = is ∙ ap Close (sym e); taken = took })
           go (no ne) =
-              let f = ap (λ (r : Arc). r.«open») (arc_other net.arcs a b (marked false (arc_at net.arcs b)) fits.0 ne) in
+              let f = ap (λ (r : Arc). r.«open») (item_other no_arc net.arcs a b (marked false (arc_at net.arcs b)) fits.0 ne) in
               subst (λ x. ClosedAs x (l ∷ log)) (sym f)
               (unmarked _ l log (λ p. ne (cc)) (λ p. cc)
               (before (omega (arith, length-set net.arcs (b - 1) (marked false (arc_at net.arcs b))))))
@@ -91,10 +91,10 @@ module _ {V : Type 0} (m : Algebra V) where
 
           go : Dec (a ≡ b) → ClosedAs (arc_at (set net.arcs (b - 1) (marked true (arc_at net.arcs b))) a).«open» (l ∷ log)
           go (yes e) =
-              let f = ap (λ i. (arc_at (set net.arcs (b - 1) (marked true (arc_at net.arcs b))) i).«open») e ∙ ap (λ (r : Arc). r.«open») (arc_set net.arcs b (marked true (arc_at net.arcs b)) fits.0 fits.1) in
+              let f = ap (λ i. (arc_at (set net.arcs (b - 1) (marked true (arc_at net.arcs b))) i).«open») e ∙ ap (λ (r : Arc). r.«open») (item_set no_arc net.arcs b (marked true (arc_at net.arcs b)) fits.0 fits.1) in
               subst (λ x. ClosedAs x (l ∷ log)) (sym f) (opening l log record { is = is ∙ ap Open (sym e); taken = took })
           go (no ne) =
-              let f = ap (λ (r : Arc). r.«open») (arc_other net.arcs a b (marked true (arc_at net.arcs b)) fits.0 ne) in
+              let f = ap (λ (r : Arc). r.«open») (item_other no_arc net.arcs a b (marked true (arc_at net.arcs b)) fits.0 ne) in
               subst (λ x. ClosedAs x (l ∷ log)) (sym f)
               (unmarked _ l log (λ p. cc) (λ p. ne (cc))
               (before (omega (arith, length-set net.arcs (b - 1) (marked true (arc_at net.arcs b))))))

@@ -1,21 +1,17 @@
 -- What a replay keeps from call to call.
-use Rattle.std.proofs.Common.{◌≡◌, ℕ, ◌+◌, ◌*◌, ◌<◌, ◌≤◌, List, [], ◌∷◌, ◌++◌, map, reverse, length, get_or, take, Some, None, vec_items, Option, sym, refl, ap, ◌∙◌, subst, inl, inr, arith}
+use Rattle.std.proofs.Common.{◌≡◌, ℕ, ◌+◌, ◌<◌, ◌≤◌, List, [], ◌∷◌, ◌++◌, map, reverse, length, get_or, take, Some, None, Option, sym, refl, ap, ◌∙◌, subst, inl, inr, arith}
 use mathlib.Core.List.{map-append}
 use Rattle.std.proofs.lemmas.List.{reverse-append, take_more, take_all}
 use Rattle.measure.specs.Algebra.{Algebra}
-use Rattle.sweeps.specs.declared.Arc.{Arc}
-use Rattle.sweeps.specs.Tables.{row_of}
-use Rattle.tracing.specs.declared.Step.{Step}
 use Rattle.session.specs.declared.stages.Draft.{Draft}
 use Rattle.journal.specs.declared.calls.Call.{Call}
 use Rattle.journal.specs.declared.calls.Answer.{Answer}
 use Rattle.journal.specs.declared.replaying.Entry.{Entry}
 use Rattle.journal.specs.declared.stages.Stage.{Stage}
 use Rattle.journal.specs.declared.stages.Stage.TheVariants.{Drafting}
-use Rattle.journal.specs.Answers.{nodes_said, path_said}
-use Rattle.journal.specs.Logs.{Sizes, takes, lent_to, rows}
+use Rattle.journal.specs.Logs.{Sizes, takes, rows}
 use Rattle.journal.specs.Promise.{Kept}
-use Rattle.journal.specs.Performs.{Tables, tables, sizes_of, logged, width, HeldRows, RowsKept, Outcome, Taken, Passed, Went}
+use Rattle.journal.specs.Performs.{Tables, sizes_of, logged, HeldRows, RowsKept, Outcome, Taken, Passed, Went}
 use Rattle.journal.specs.Replays.{shown, log_of, Follows, Replayed}
 use Rattle.journal.proofs.Answering.{new_holds, leaves}
 use Rattle.journal.proofs.Entries.{still_held}

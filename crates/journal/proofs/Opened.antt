@@ -1,5 +1,5 @@
 -- What a trace that is opened, or is not, adds to a log.
-use Rattle.std.proofs.Common.{◌≡◌, ℕ, ◌-◌, ◌≤◌, min, Bool, List, length, take, Some, None, Ok, Err, Option, sym, refl, ap, ◌∙◌, subst, inr, arith, length-take}
+use Rattle.std.proofs.Common.{◌≡◌, ℕ, ◌≤◌, min, Bool, List, length, take, Some, None, Ok, Err, Option, sym, refl, ap, ◌∙◌, subst, inr, arith, length-take}
 use Rattle.std.proofs.lemmas.Bool.Decides.{nat_tests}
 use Rattle.measure.specs.Algebra.{Algebra}
 use Rattle.sweeps.specs.declared.Arc.{Arc}

@@ -1,5 +1,5 @@
 -- What a solve adds to a log.
-use Rattle.std.proofs.Common.{◌≡◌, ℕ, ◌-◌, ◌*◌, min, Bool, true, false, cond, ◌||◌, ltb, List, [], ◌++◌, length, take, Some, None, Ok, Err, Option, sym, refl, ap, ◌∙◌, subst, inl, inr, arith, take-append-drop, length-take}
+use Rattle.std.proofs.Common.{◌≡◌, ℕ, ◌*◌, min, Bool, true, false, cond, ◌||◌, ltb, List, [], ◌++◌, length, take, Some, None, Ok, Err, Option, sym, refl, ap, ◌∙◌, subst, inl, inr, arith, take-append-drop, length-take}
 use borrow.Rule.Slice.PartMut.{post_of}
 use Rattle.measure.specs.Algebra.{Algebra}
 use Rattle.walks.specs.Rows.{Table}
