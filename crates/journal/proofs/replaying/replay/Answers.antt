@@ -1,6 +1,6 @@
 use Rattle.std.proofs.Common.{◌≡◌, [], ◌∷◌, ◌++◌, vec_items, refl, ap, ◌∙◌, arith, rules}
-use Rattle.journal.proofs.Answering.{sizes_same}
-use Rattle.journal.proofs.Noting.{begun, went_on, passed_by, one_more, went_some, went_none, all_made}
+use Rattle.journal.proofs.Keeping.{sizes_same}
+use Rattle.journal.proofs.Noting.{begun, went_on, passed_by, one_more, all_made}
 use Rattle.journal.proofs.replaying.replay.Goals as goal
 use Rattle.journal.proofs.replaying.replay.Goals.{in_default, in-Some+in_ok-note+in_ok-push}
 
@@ -15,13 +15,13 @@ loop-call-preserved g c =
           let e : vec_items c.match-answer.entries ≡ vec_items c.loop-call.entries ++ w.in_ok-note.field-0 ∷ [] = ap vec_items w.entries-is ∙ w.in_ok-push.ensures.items in
           simp e
           (went_on _ _ _ _ _ _ _ _ _ _ w.in-Some.answer w.in_ok-note.field-0
-          (went_some _ _ _ _ _ _ _ _ c.perform-next.ensures w.in-Some.is)
+          (rw w.in-Some.is at c.perform-next.ensures)
           (λ y. w.in_ok-note.ensures y c.perform-next.new.arcs c.perform-next.new.lengths c.perform-next.new.work)
           (sizes_same _ _ _ _ _ _ _ _ _ _ _ _ (search rules) (search rules) (search rules) (search rules) (search rules) (search rules))
           c.loop-call.invariant)
       | in_default w ↦
           let e : vec_items c.match-answer.entries ≡ vec_items c.loop-call.entries = ap vec_items w.entries-is in
-          simp e (passed_by _ _ _ _ _ _ _ _ _ _ (went_none _ _ _ _ _ _ _ c.perform-next.ensures w.in_default.is) c.loop-call.invariant)
+          simp e (passed_by _ _ _ _ _ _ _ _ _ _ (rw w.in_default.is at c.perform-next.ensures) c.loop-call.invariant)
     ])
 
 pub returns : goal.returns

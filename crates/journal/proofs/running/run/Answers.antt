@@ -1,5 +1,6 @@
 use Rattle.std.proofs.Common.{length, drop, refl, ap, ◌∙◌, arith, drop-set-lt, rules}
-use Rattle.journal.proofs.Answering.{begun, answered, one_answered, all_answered, sizes_same}
+use Rattle.journal.proofs.Answering.{begun, answered, one_answered, all_answered}
+use Rattle.journal.proofs.Keeping.{sizes_same}
 use Rattle.journal.proofs.running.run.Goals as goal
 
 pub loop-i-init : goal.loop-i-init
