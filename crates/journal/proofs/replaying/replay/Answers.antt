@@ -1,5 +1,4 @@
 use Rattle.std.proofs.Common.{◌≡◌, [], ◌∷◌, ◌++◌, vec_items, refl, ap, ◌∙◌, arith, rules}
-use Rattle.journal.proofs.Keeping.{sizes_same}
 use Rattle.journal.proofs.Noting.{begun, went_on, passed_by, one_more, all_made}
 use Rattle.journal.proofs.replaying.replay.Goals as goal
 use Rattle.journal.proofs.replaying.replay.Goals.{in_default, in-Some+in_ok-note+in_ok-push}
@@ -17,7 +16,7 @@ loop-call-preserved g c =
           (went_on _ _ _ _ _ _ _ _ _ _ w.in-Some.answer w.in_ok-note.field-0
           (rw w.in-Some.is at c.perform-next.ensures)
           (λ y. w.in_ok-note.ensures y c.perform-next.new.arcs c.perform-next.new.lengths c.perform-next.new.work)
-          (sizes_same _ _ _ _ _ _ _ _ _ _ _ _ (search rules) (search rules) (search rules) (search rules) (search rules) (search rules))
+          (search rules)
           c.loop-call.invariant)
       | in_default w ↦
           let e : vec_items c.match-answer.entries ≡ vec_items c.loop-call.entries = ap vec_items w.entries-is in

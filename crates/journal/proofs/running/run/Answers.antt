@@ -1,6 +1,5 @@
 use Rattle.std.proofs.Common.{length, drop, refl, ap, ◌∙◌, arith, drop-set-lt, rules}
 use Rattle.journal.proofs.Answering.{begun, answered, one_answered, all_answered}
-use Rattle.journal.proofs.Keeping.{sizes_same}
 use Rattle.journal.proofs.running.run.Goals as goal
 
 pub loop-i-init : goal.loop-i-init
@@ -11,7 +10,7 @@ loop-i-preserved g c = (
   simp c.store.ensures
       (one_answered _ _ _ c.args.calls.now c.loop-i.answers c.loop-i.i c.index-calls-i.result _ _ _ (omega arith) (omega arith) c.index-calls-i.is
       (answered _ _ _ _ _ _ _ _ _ _ c.perform-next.result.1 c.perform-next.ensures
-      (sizes_same _ _ _ _ _ _ _ _ _ _ _ _ (search rules) (search rules) (search rules) (search rules) (search rules) (search rules)) c.loop-i.invariant.0)),
+      (search rules) c.loop-i.invariant.0)),
   ap (drop (length c.args.calls.now)) c.store.ensures ∙ drop-set-lt (length c.args.calls.now) c.loop-i.answers c.loop-i.i _ (omega arith) ∙ c.loop-i.invariant.1,
 )
 
