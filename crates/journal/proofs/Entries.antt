@@ -1,5 +1,5 @@
 -- What one more entry makes of a log, whatever the call.
-use Rattle.std.proofs.Common.{◌≡◌, ℕ, Bool, true, false, cond, List, [], ◌∷◌, Option, sym, refl, ◌∙◌, subst, inl, inr}
+use Rattle.std.proofs.Common.{◌≡◌, ℕ, Bool, true, false, cond, List, [], ◌∷◌, sym, refl, ◌∙◌, subst, inl, inr}
 use Rattle.measure.specs.Algebra.{Algebra}
 use Rattle.session.specs.Nets.{Net}
 use Rattle.journal.specs.declared.calls.Call.{Call}
@@ -8,7 +8,7 @@ use Rattle.journal.specs.declared.calls.Answer.{Answer}
 use Rattle.journal.specs.declared.stages.Stage.{Stage}
 use Rattle.journal.specs.Answers.{accepted}
 use Rattle.journal.specs.Logs.{Logged, Rows, changed, network}
-use Rattle.journal.specs.Performs.{Tables, HeldRows, RowsKept, Taken, Went}
+use Rattle.journal.specs.Performs.{Tables, HeldRows, RowsKept, Taken}
 
 -- a choice between two that are the same
 pub either_way : {X : Type 0} (b : Bool) (x : X) → x ≡ cond b x x
@@ -40,10 +40,6 @@ module _ {V : Type 0} where
 -- a call and an answer under other names
 pub taken_as : {V : Type 0} (m : Algebra V) (s : Stage) (T : Tables V) (call call' : Call V) (a a' : Answer V) (s' : Stage) (T' : Tables V) → call ≡ call' → a ≡ a' → Taken m s T call' a' s' T' → Taken m s T call a s' T'
 taken_as m s T call call' a a' s' T' e f t = subst (λ k. Taken m s T k a s' T') (sym e) (subst (λ b. Taken m s T call' b s' T') (sym f) t)
-
--- a stage under another name
-pub went_at : {V : Type 0} (m : Algebra V) (s s₀ : Stage) (T : Tables V) (call : Call V) (s' : Stage) (a : Option (Answer V)) (T' : Tables V) → s ≡ s₀ → Went m s₀ T call s' a T' → Went m s T call s' a T'
-went_at m s s₀ T call s' a T' e h = subst (λ x. Went m x T call s' a T') (sym e) h
 
 -- rows that were held are held after a call
 pub still_held : {V : Type 0} (m : Algebra V) (n : ℕ) (rows rows' : Rows V) (T T' : Tables V) → RowsKept m n rows T rows' T' → HeldRows m n rows T.values T.counts → HeldRows m n rows' T'.values T'.counts

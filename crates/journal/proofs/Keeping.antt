@@ -2,7 +2,6 @@
 use Rattle.std.proofs.Common.{◌≡◌, ℕ, List, [], ◌∷◌, length, take, sym, refl, ap, ◌∙◌, subst, arith}
 use Rattle.measure.specs.Algebra.{Algebra}
 use Rattle.sweeps.specs.declared.Arc.{Arc}
-use Rattle.tracing.specs.declared.Step.{Step}
 use Rattle.session.specs.declared.stages.Draft.{Draft}
 use Rattle.session.specs.Nets.{Net, bare}
 use Rattle.session.specs.Drafts.{DraftHolds}
@@ -12,7 +11,7 @@ use Rattle.journal.specs.declared.stages.Stage.{Stage}
 use Rattle.journal.specs.declared.stages.Stage.TheVariants.{Drafting, Resting, Tracing}
 use Rattle.journal.specs.Logs.{Sizes, Logged, network, rows}
 use Rattle.journal.specs.Promise.{Kept}
-use Rattle.journal.specs.Performs.{Tables, tables, sizes_of, logged, HeldRows, RowsKept, Outcome, Taken, Passed}
+use Rattle.journal.specs.Performs.{Tables, sizes_of, logged, HeldRows, RowsKept, Outcome, Taken, Passed}
 use Rattle.journal.specs.Runs.{Left}
 use Rattle.journal.proofs.Entries.{still_held}
 
@@ -59,8 +58,3 @@ module _ {V : Type 0} (m : Algebra V) (n : ℕ) (z : Sizes) where
   leaves log (Drafting d) T w = let h = held_arcs (network n log) d T.arcs T.lengths w.outcome.holds in record { arcs = h.0; lengths = h.1; rows_held = w.held }
   leaves log (Resting s) T w = let h = held_arcs (network n log) s.draft T.arcs T.lengths w.outcome.holds.holds.draft in record { arcs = h.0; lengths = h.1; rows_held = w.held }
   leaves log (Tracing t) T w = let h = held_arcs (network n log) t.settled.draft T.arcs T.lengths w.outcome.holds.holds.settled.draft in record { arcs = h.0; lengths = h.1; rows_held = w.held }
-
-pub sizes_same : {V : Type 0} (arcs arcs' : List Arc) (lengths lengths' values values' : List V) (counts counts' : List ℕ) (work work' : List Step) (path path' : List ℕ)
-    → length arcs' ≡ length arcs → length lengths' ≡ length lengths → length values' ≡ length values → length counts' ≡ length counts → length work' ≡ length work → length path' ≡ length path
-    → sizes_of (tables arcs' lengths' values' counts' work' path') ≡ sizes_of (tables arcs lengths values counts work path)
-sizes_same arcs arcs' lengths lengths' values values' counts counts' work work' path path' a b c d e f = λ j. record { arcs = a j; lengths = b j; values = c j; counts = d j; work = e j; path = f j }
