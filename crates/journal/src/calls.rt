@@ -45,7 +45,7 @@ pub enum Call<M> {
 }
 
 // What a call answered.
-#[derive(Clone, Copy)]
+#[derive(Clone, Copy, PartialEq, Eq, Debug)]
 pub enum Answer<M> {
     Refused(Refusal),
     Done,

@@ -5,7 +5,7 @@ ghost use Rattle.journal.specs.declared.faults.Fault.TheVariants.{Declined, Memo
 use session::Refusal;
 use std::alloc::{AllocError, AllocFailed};
 
-#[derive(Drop)]
+#[derive(Clone, Copy, PartialEq, Eq, Debug)]
 pub enum Fault {
     // there is no session of so many nodes
     Declined(Refusal),
