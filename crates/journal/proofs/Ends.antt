@@ -7,7 +7,7 @@ use Rattle.sweeps.specs.declared.Arc.{Arc}
 use Rattle.sweeps.specs.Tables.{no_arc, arc_at}
 use Rattle.session.specs.Nets.{Net, new_arc, marked}
 use Rattle.journal.specs.declared.calls.Call.{Call}
-use Rattle.journal.specs.declared.calls.Call.TheVariants.{Put, Relength, Close, Open, Solve, Length, Trace, Next, Finish, Reopen}
+use Rattle.journal.specs.declared.calls.Call.TheVariants.{Put, Close, Open}
 use Rattle.journal.specs.declared.calls.Answer.TheVariants.{Numbered}
 use Rattle.journal.specs.Answers.{accepted}
 use Rattle.journal.specs.Logs.{Logged, changed, network, rows, target, handed}
@@ -51,15 +51,9 @@ module _ {V : Type 0} (m : Algebra V) (a : ℕ) where
             let new : a ≡ length net.arcs + 1 = omega (arith, length-append net.arcs (new_arc start end ∷ [])) in
             subst (λ arc. PutIn arc (l ∷ log)) (sym (item_new no_arc net.arcs (new_arc start end) a new)) (l, x, inl refl, record { is = is; number = number ∙ ap Numbered (sym new) })
         go (no le) = subst (λ arc. PutIn arc (l ∷ log)) (sym (item_kept no_arc net.arcs (new_arc start end ∷ []) a (omega arith))) (older (arc_at net.arcs a) l log (before (omega arith)))
-    ends_by (Relength b x) is took r high = older (arc_at net.arcs a) l log (before high)
     ends_by (Close b) is took r high = let f = mark_fits m (length net.arcs) b l.answer r took in marks false b f.0 f.1 (omega (arith, length-set net.arcs (b - 1) (marked false (arc_at net.arcs b))))
     ends_by (Open b) is took r high = let f = mark_fits m (length net.arcs) b l.answer r took in marks true b f.0 f.1 (omega (arith, length-set net.arcs (b - 1) (marked true (arc_at net.arcs b))))
-    ends_by (Solve order v c) is took r high = older (arc_at net.arcs a) l log (before high)
-    ends_by (Length j place) is took r high = older (arc_at net.arcs a) l log (before high)
-    ends_by (Trace j w p) is took r high = older (arc_at net.arcs a) l log (before high)
-    ends_by Next is took r high = older (arc_at net.arcs a) l log (before high)
-    ends_by Finish is took r high = older (arc_at net.arcs a) l log (before high)
-    ends_by Reopen is took r high = older (arc_at net.arcs a) l log (before high)
+    ends_by _ is took r high = older (arc_at net.arcs a) l log (before high)
 
     ends_if : (b : Bool) → accepted l.answer ≡ b → Answered m net (rows log) (target log) (handed log) l.call l → a ≤ length (cond b (changed l.call net) net).arcs → PutIn (arc_at (cond b (changed l.call net) net).arcs a) (l ∷ log)
     ends_if true e r high = ends_by l.call refl e r high

@@ -3,7 +3,7 @@ use Rattle.std.proofs.Common.{◌≡◌, ℕ, Bool, true, false, cond, List, [],
 use Rattle.measure.specs.Algebra.{Algebra}
 use Rattle.session.specs.Nets.{Net}
 use Rattle.journal.specs.declared.calls.Call.{Call}
-use Rattle.journal.specs.declared.calls.Call.TheVariants.{Put, Relength, Close, Open, Solve, Length, Trace, Next, Finish, Reopen}
+use Rattle.journal.specs.declared.calls.Call.TheVariants.{Put}
 use Rattle.journal.specs.declared.calls.Answer.{Answer}
 use Rattle.journal.specs.declared.stages.Stage.{Stage}
 use Rattle.journal.specs.Answers.{accepted}
@@ -18,15 +18,7 @@ either_way false x = refl
 module _ {V : Type 0} where
   nodes_kept : (call : Call V) (net : Net V) → (changed call net).nodes ≡ net.nodes
   nodes_kept (Put start end x) net = refl
-  nodes_kept (Relength a x) net = refl
-  nodes_kept (Close a) net = refl
-  nodes_kept (Open a) net = refl
-  nodes_kept (Solve order v c) net = refl
-  nodes_kept (Length j place) net = refl
-  nodes_kept (Trace j w p) net = refl
-  nodes_kept Next net = refl
-  nodes_kept Finish net = refl
-  nodes_kept Reopen net = refl
+  nodes_kept _ net = refl
 
   -- no call changes the number of nodes
   pub nodes_are : (n : ℕ) (log : List (Logged V)) → (network n log).nodes ≡ n

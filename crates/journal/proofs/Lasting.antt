@@ -10,7 +10,7 @@ use Rattle.sweeps.specs.Tables.{arc_at}
 use Rattle.session.specs.Nets.{Net, new_arc, marked}
 use Rattle.session.specs.Drafts.{outside, judged, relength_verdict, mark_verdict}
 use Rattle.journal.specs.declared.calls.Call.{Call}
-use Rattle.journal.specs.declared.calls.Call.TheVariants.{Put, Relength, Close, Open, Solve, Length, Trace, Next, Finish, Reopen}
+use Rattle.journal.specs.declared.calls.Call.TheVariants.{Put, Relength, Close, Open}
 use Rattle.journal.specs.declared.calls.Answer.{Answer}
 use Rattle.journal.specs.declared.calls.Answer.TheVariants.{Numbered}
 use Rattle.journal.specs.Answers.{accepted, told, as_done}
@@ -92,12 +92,7 @@ module _ {V : Type 0} (m : Algebra V) where
   paired (Relength a x) net e = length-set net.lengths (a - 1) x ∙ e
   paired (Close a) net e = e ∙ sym (length-set net.arcs (a - 1) (marked false (arc_at net.arcs a)))
   paired (Open a) net e = e ∙ sym (length-set net.arcs (a - 1) (marked true (arc_at net.arcs a)))
-  paired (Solve order v c) net e = e
-  paired (Length j place) net e = e
-  paired (Trace j w p) net e = e
-  paired Next net e = e
-  paired Finish net e = e
-  paired Reopen net e = e
+  paired _ net e = e
 
   pub beside : (n : ℕ) (log : List (Logged V)) → length (network n log).lengths ≡ length (network n log).arcs
   beside n [] = refl
@@ -110,15 +105,9 @@ module _ {V : Type 0} (m : Algebra V) where
   -- no call takes an arc away
   more : (call : Call V) (net : Net V) → length net.arcs ≤ length (changed call net).arcs
   more (Put start end x) net = omega (arith, length-append net.arcs (new_arc start end ∷ []))
-  more (Relength a x) net = omega arith
   more (Close a) net = omega (arith, length-set net.arcs (a - 1) (marked false (arc_at net.arcs a)))
   more (Open a) net = omega (arith, length-set net.arcs (a - 1) (marked true (arc_at net.arcs a)))
-  more (Solve order v c) net = omega arith
-  more (Length j place) net = omega arith
-  more (Trace j w p) net = omega arith
-  more Next net = omega arith
-  more Finish net = omega arith
-  more Reopen net = omega arith
+  more _ net = omega arith
 
   pub grows : (n : ℕ) (l : Logged V) (log : List (Logged V)) → length (network n log).arcs ≤ length (network n (l ∷ log)).arcs
   grows n l log = go (accepted l.answer)

@@ -5,7 +5,7 @@ use Rattle.measure.specs.Algebra.{Algebra}
 use Rattle.sweeps.specs.Tables.{arc_at, length_at}
 use Rattle.session.specs.Nets.{Net, new_arc, marked}
 use Rattle.journal.specs.declared.calls.Call.{Call}
-use Rattle.journal.specs.declared.calls.Call.TheVariants.{Put, Relength, Close, Open, Solve, Length, Trace, Next, Finish, Reopen}
+use Rattle.journal.specs.declared.calls.Call.TheVariants.{Put, Relength, Close, Open}
 use Rattle.journal.specs.declared.calls.Answer.TheVariants.{Numbered}
 use Rattle.journal.specs.Answers.{accepted}
 use Rattle.journal.specs.Logs.{Logged, changed, network, rows, target, handed}
@@ -63,18 +63,7 @@ module _ {V : Type 0} (m : Algebra V) where
       length_by (Open b) is took r high =
           unmoved _ l log (λ g. ⊎_elim (λ p. cc) (λ p. cc) g.1)
           (before (omega (arith, length-set net.arcs (b - 1) (marked true (arc_at net.arcs b)))))
-      length_by (Solve order v c) is took r high =
-          unmoved _ l log (λ g. ⊎_elim (λ p. cc) (λ p. cc) g.1) (before high)
-      length_by (Length j place) is took r high =
-          unmoved _ l log (λ g. ⊎_elim (λ p. cc) (λ p. cc) g.1) (before high)
-      length_by (Trace j w p) is took r high =
-          unmoved _ l log (λ g. ⊎_elim (λ p. cc) (λ p. cc) g.1) (before high)
-      length_by Next is took r high =
-          unmoved _ l log (λ g. ⊎_elim (λ p. cc) (λ p. cc) g.1) (before high)
-      length_by Finish is took r high =
-          unmoved _ l log (λ g. ⊎_elim (λ p. cc) (λ p. cc) g.1) (before high)
-      length_by Reopen is took r high =
-          unmoved _ l log (λ g. ⊎_elim (λ p. cc) (λ p. cc) g.1) (before high)
+      length_by _ is took r high = unmoved _ l log (λ g. ⊎_elim (λ p. cc) (λ p. cc) g.1) (before high)
 
       length_if : (b : Bool) → accepted l.answer ≡ b → Answered m net (rows log) (target log) (handed log) l.call l → a ≤ length (cond b (changed l.call net) net).arcs → LengthAs (length_at m (cond b (changed l.call net) net).lengths a) (l ∷ log)
       length_if true e r high = length_by l.call refl e r high

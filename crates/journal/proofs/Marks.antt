@@ -6,7 +6,7 @@ use Rattle.sweeps.specs.declared.Arc.{Arc}
 use Rattle.sweeps.specs.Tables.{no_arc, arc_at}
 use Rattle.session.specs.Nets.{Net, new_arc, marked}
 use Rattle.journal.specs.declared.calls.Call.{Call}
-use Rattle.journal.specs.declared.calls.Call.TheVariants.{Put, Relength, Close, Open, Solve, Length, Trace, Next, Finish, Reopen}
+use Rattle.journal.specs.declared.calls.Call.TheVariants.{Put, Close, Open}
 use Rattle.journal.specs.Answers.{accepted}
 use Rattle.journal.specs.Logs.{Logged, changed, network, rows, target, handed}
 use Rattle.journal.specs.Promise.{Answered, Kept}
@@ -68,8 +68,6 @@ module _ {V : Type 0} (m : Algebra V) where
           go (no le) =
               let e = ap (λ (r : Arc). r.«open») (item_kept no_arc net.arcs (new_arc start end ∷ []) a (omega arith)) in
               subst (λ b. ClosedAs b (l ∷ log)) (sym e) (unmarked _ l log no_close no_open (before (omega arith)))
-      closed_by (Relength b x) is took r high =
-          unmarked _ l log (λ p. cc) (λ p. cc) (before high)
       closed_by (Close b) is took r high = go (ℕ_discrete a b)
         where
           fits : (1 ≤ b) × (b ≤ length net.arcs)
@@ -98,18 +96,7 @@ module _ {V : Type 0} (m : Algebra V) where
               subst (λ x. ClosedAs x (l ∷ log)) (sym f)
               (unmarked _ l log (λ p. cc) (λ p. ne (cc))
               (before (omega (arith, length-set net.arcs (b - 1) (marked true (arc_at net.arcs b))))))
-      closed_by (Solve order v c) is took r high =
-          unmarked _ l log (λ p. cc) (λ p. cc) (before high)
-      closed_by (Length j place) is took r high =
-          unmarked _ l log (λ p. cc) (λ p. cc) (before high)
-      closed_by (Trace j w p) is took r high =
-          unmarked _ l log (λ p. cc) (λ p. cc) (before high)
-      closed_by Next is took r high =
-          unmarked _ l log (λ p. cc) (λ p. cc) (before high)
-      closed_by Finish is took r high =
-          unmarked _ l log (λ p. cc) (λ p. cc) (before high)
-      closed_by Reopen is took r high =
-          unmarked _ l log (λ p. cc) (λ p. cc) (before high)
+      closed_by _ is took r high = unmarked _ l log (λ p. cc) (λ p. cc) (before high)
 
       closed_if : (b : Bool) → accepted l.answer ≡ b → Answered m net (rows log) (target log) (handed log) l.call l → a ≤ length (cond b (changed l.call net) net).arcs → ClosedAs (arc_at (cond b (changed l.call net) net).arcs a).«open» (l ∷ log)
       closed_if true e r high = closed_by l.call refl e r high

@@ -5,7 +5,7 @@ use Rattle.sweeps.specs.declared.order.Order.{Order}
 use Rattle.sweeps.specs.declared.refusal.Refusal.{Refusal}
 use Rattle.session.specs.Nets.{Net}
 use Rattle.journal.specs.declared.calls.Call.{Call}
-use Rattle.journal.specs.declared.calls.Call.TheVariants.{Put, Relength, Close, Open, Solve, Length, Trace, Next, Finish, Reopen}
+use Rattle.journal.specs.declared.calls.Call.TheVariants.{Solve, Length, Trace, Next, Finish}
 use Rattle.journal.specs.Answers.{accepted, by_circuit}
 use Rattle.journal.specs.Logs.{Logged, Kind, drafting, resting, tracing, same, takes, leads_to, changed, rows_after, rows_cleared, stage, network, rows, target, handed}
 use Rattle.journal.specs.Promise.{SolveRight, Answered}
@@ -14,14 +14,9 @@ use Rattle.journal.specs.Histories.{ExactRows, RowsStayExact}
 -- stages that are the same
 same_is : (k i : Kind) → same k i ≡ true → k ≡ i
 same_is drafting drafting e = refl
-same_is drafting resting e = cc
-same_is drafting tracing e = cc
-same_is resting drafting e = cc
 same_is resting resting e = refl
-same_is resting tracing e = cc
-same_is tracing drafting e = cc
-same_is tracing resting e = cc
 same_is tracing tracing e = refl
+same_is _ _ e = cc
 
 resting_apart : (k : Kind) → same k resting ≡ true → ¬ (k ≡ drafting)
 resting_apart k e d = let f = same_is k resting e in cc
@@ -47,29 +42,17 @@ module _ {V : Type 0} (m : Algebra V) where
 
     by_call : (call : Call V) → accepted l.answer ≡ true → takes (stage log) call ≡ true → Answered m net (rows log) (target log) (handed log) call l → ¬ (leads_to call ≡ drafting)
         → ExactRows m (changed call net) (rows_after call l.rows (rows log))
-    by_call (Put start end x) took t r s = absurd (s refl)
-    by_call (Relength a x) took t r s = absurd (s refl)
-    by_call (Close a) took t r s = absurd (s refl)
-    by_call (Open a) took t r s = absurd (s refl)
     by_call (Solve order v c) took t r s = solved _ net order l took r
     by_call (Length j place) took t r s = before (resting_apart (stage log) t)
     by_call (Trace j w p) took t r s = before (resting_apart (stage log) t)
     by_call Next took t r s = before (tracing_apart (stage log) t)
     by_call Finish took t r s = before (tracing_apart (stage log) t)
-    by_call Reopen took t r s = absurd (s refl)
+    by_call _ took t r s = absurd (s refl)
 
     -- no call on another stage than a draft clears the rows when it is refused
     uncleared : (call : Call V) → takes (stage log) call ≡ true → ¬ (stage log ≡ drafting) → rows_cleared call (rows log) ≡ rows log
-    uncleared (Put start end x) t s = refl
-    uncleared (Relength a x) t s = refl
-    uncleared (Close a) t s = refl
-    uncleared (Open a) t s = refl
     uncleared (Solve order v c) t s = absurd (s (same_is (stage log) drafting t))
-    uncleared (Length j place) t s = refl
-    uncleared (Trace j w p) t s = refl
-    uncleared Next t s = refl
-    uncleared Finish t s = refl
-    uncleared Reopen t s = refl
+    uncleared _ t s = refl
 
     by_answer : (b : Bool) → accepted l.answer ≡ b → takes (stage log) l.call ≡ true → Answered m net (rows log) (target log) (handed log) l.call l → ¬ (cond b (leads_to l.call) (stage log) ≡ drafting)
         → ExactRows m (cond b (changed l.call net) net) (cond b (rows_after l.call l.rows (rows log)) (cond (by_circuit l.answer) (rows_cleared l.call (rows log)) (rows log)))

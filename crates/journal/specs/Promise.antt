@@ -58,13 +58,9 @@ module _ {V : Type 0} (m : Algebra V) where
     pub first : FirstLeft m (listed m net) rows.source rows.at to given (reverse path)
 
   abbrev pub NextRight : Net V → Rows V → ℕ → List (List ℕ) → Answer V → List ℕ → Type 0
-  NextRight net rows to given (Refused why) path = ⊥
-  NextRight net rows to given Done path = ⊥
-  NextRight net rows to given (Numbered i) path = ⊥
-  NextRight net rows to given (Solved passes null) path = ⊥
-  NextRight net rows to given (Value v) path = ⊥
   NextRight net rows to given (Path count x) path = PathRight net rows to given count x path
   NextRight net rows to given NoPath path = NoneLeft m (listed m net) rows.source rows.at to given
+  NextRight net rows to given _ path = ⊥
 
   -- what is asked of the answer to a call, for the network, the rows, the target and the paths handed out that the calls before it have left
   abbrev pub Answered : Net V → Rows V → ℕ → List (List ℕ) → Call V → Logged V → Type 0
