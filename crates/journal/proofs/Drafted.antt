@@ -1,5 +1,5 @@
 -- What the calls on a draft that change its network add to a log.
-use Rattle.std.proofs.Common.{ℕ, ◌+◌, true, false, List, length, Ok, Err, Result, sym, refl, ap, ◌∙◌, inr}
+use Rattle.std.proofs.Common.{ℕ, ◌+◌, true, false, List, length, Ok, Err, Result, refl, ap, ◌∙◌, inr}
 use Rattle.measure.specs.Algebra.{Algebra}
 use Rattle.sweeps.specs.declared.Arc.{Arc}
 use Rattle.sweeps.specs.declared.refusal.Refusal.{Refusal}
@@ -11,10 +11,10 @@ use Rattle.session.proofs.Holding.{mark_holds}
 use Rattle.journal.specs.declared.calls.Call.TheVariants.{Put, Relength, Close, Open}
 use Rattle.journal.specs.declared.calls.Answer.TheVariants.{Numbered}
 use Rattle.journal.specs.declared.stages.Stage.TheVariants.{Drafting}
-use Rattle.journal.specs.Answers.{is_circuit, told, as_done}
-use Rattle.journal.specs.Logs.{same, drafting, rows}
+use Rattle.journal.specs.Answers.{told, as_done}
+use Rattle.journal.specs.Logs.{same, drafting}
 use Rattle.journal.specs.Performs.{Tables, tables, Taken}
-use Rattle.journal.proofs.Entries.{either_way}
+use Rattle.journal.proofs.Entries.{declined_taken}
 
 module _ {V : Type 0} (m : Algebra V) (d : Draft) (arcs : List Arc) (lengths values : List V) (counts : List ℕ) (work : List Step) (path : List ℕ) where
   abbrev before : Tables V
@@ -32,14 +32,8 @@ module _ {V : Type 0} (m : Algebra V) (d : Draft) (arcs : List Arc) (lengths val
           inr (refl, refl, refl),
         );
   }
-  put_taken start end x (Err why) d' arcs' lengths' done meant = record {
-    step = λ n log o kept.
-        let h = o.holds in (
-          (record { taken = ap (λ k. same k drafting) o.at; answered = ap (told Numbered) (done.answer ∙ (λ j. judged (put_verdict m (h.nodes j) (h.count j) (h.last j) (length arcs) (length lengths) start end x) (h.count j + 1))) }, kept),
-          record { at = o.at; holds = meant _ h },
-          inr (sym (either_way (is_circuit why) (rows log)), refl, refl),
-        );
-  }
+  put_taken start end x (Err why) d' arcs' lengths' done meant =
+      declined_taken m _ _ _ _ _ why refl (λ r. refl) refl refl (λ n log o. let h = o.holds in (record { taken = ap (λ k. same k drafting) o.at; answered = ap (told Numbered) (done.answer ∙ (λ j. judged (put_verdict m (h.nodes j) (h.count j) (h.last j) (length arcs) (length lengths) start end x) (h.count j + 1))) }, meant _ h))
 
   pub relength_taken : (a : ℕ) (x : V) (r : Result (Unit {0}) Refusal) (lengths' : List V)
       → RelengthDone m d lengths a x r lengths'
@@ -53,14 +47,8 @@ module _ {V : Type 0} (m : Algebra V) (d : Draft) (arcs : List Arc) (lengths val
           inr (refl, refl, refl),
         );
   }
-  relength_taken a x (Err why) lengths' done meant = record {
-    step = λ n log o kept.
-        let h = o.holds in (
-          (record { taken = ap (λ k. same k drafting) o.at; answered = ap as_done (done.answer h.length_room ∙ (λ j. judged (relength_verdict m (h.count j) a x) tt)) }, kept),
-          record { at = o.at; holds = meant _ arcs h },
-          inr (sym (either_way (is_circuit why) (rows log)), refl, refl),
-        );
-  }
+  relength_taken a x (Err why) lengths' done meant =
+      declined_taken m _ _ _ _ _ why refl (λ r. refl) refl refl (λ n log o. let h = o.holds in (record { taken = ap (λ k. same k drafting) o.at; answered = ap as_done (done.answer h.length_room ∙ (λ j. judged (relength_verdict m (h.count j) a x) tt)) }, meant _ arcs h))
 
   pub close_taken : (a : ℕ) (r : Result (Unit {0}) Refusal) (arcs' : List Arc) → MarkDone d arcs a false r arcs'
       → Taken m (Drafting d) before (Close a) (as_done r) (Drafting d) (tables arcs' lengths values counts work path)
@@ -72,14 +60,8 @@ module _ {V : Type 0} (m : Algebra V) (d : Draft) (arcs : List Arc) (lengths val
           inr (refl, refl, refl),
         );
   }
-  close_taken a (Err why) arcs' done = record {
-    step = λ n log o kept.
-        let h = o.holds in (
-          (record { taken = ap (λ k. same k drafting) o.at; answered = ap as_done (done.answer h.arc_room ∙ (λ j. judged (mark_verdict (h.count j) a) tt)) }, kept),
-          record { at = o.at; holds = mark_holds m _ d arcs lengths a false (Err why) arcs' h done },
-          inr (sym (either_way (is_circuit why) (rows log)), refl, refl),
-        );
-  }
+  close_taken a (Err why) arcs' done =
+      declined_taken m _ _ _ _ _ why refl (λ r. refl) refl refl (λ n log o. let h = o.holds in (record { taken = ap (λ k. same k drafting) o.at; answered = ap as_done (done.answer h.arc_room ∙ (λ j. judged (mark_verdict (h.count j) a) tt)) }, mark_holds m _ d arcs lengths a false (Err why) arcs' h done))
 
   pub open_taken : (a : ℕ) (r : Result (Unit {0}) Refusal) (arcs' : List Arc) → MarkDone d arcs a true r arcs'
       → Taken m (Drafting d) before (Open a) (as_done r) (Drafting d) (tables arcs' lengths values counts work path)
@@ -91,11 +73,5 @@ module _ {V : Type 0} (m : Algebra V) (d : Draft) (arcs : List Arc) (lengths val
           inr (refl, refl, refl),
         );
   }
-  open_taken a (Err why) arcs' done = record {
-    step = λ n log o kept.
-        let h = o.holds in (
-          (record { taken = ap (λ k. same k drafting) o.at; answered = ap as_done (done.answer h.arc_room ∙ (λ j. judged (mark_verdict (h.count j) a) tt)) }, kept),
-          record { at = o.at; holds = mark_holds m _ d arcs lengths a true (Err why) arcs' h done },
-          inr (sym (either_way (is_circuit why) (rows log)), refl, refl),
-        );
-  }
+  open_taken a (Err why) arcs' done =
+      declined_taken m _ _ _ _ _ why refl (λ r. refl) refl refl (λ n log o. let h = o.holds in (record { taken = ap (λ k. same k drafting) o.at; answered = ap as_done (done.answer h.arc_room ∙ (λ j. judged (mark_verdict (h.count j) a) tt)) }, mark_holds m _ d arcs lengths a true (Err why) arcs' h done))

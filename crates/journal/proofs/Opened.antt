@@ -13,10 +13,10 @@ use Rattle.session.proofs.Following.{trace_holds}
 use Rattle.journal.specs.declared.calls.Call.TheVariants.{Trace}
 use Rattle.journal.specs.declared.calls.Answer.TheVariants.{Refused, Done}
 use Rattle.journal.specs.declared.stages.Stage.TheVariants.{Resting, Tracing}
-use Rattle.journal.specs.Answers.{is_circuit, as_done}
+use Rattle.journal.specs.Answers.{as_done}
 use Rattle.journal.specs.Logs.{same, resting, network, rows}
 use Rattle.journal.specs.Performs.{Tables, tables, Rests, Taken}
-use Rattle.journal.proofs.Entries.{either_way}
+use Rattle.journal.proofs.Entries.{declined_taken}
 
 -- tables that are large enough stay so when they are larger
 wider : (n k : ℕ) (null : Bool) (target w p w' p' : ℕ) → w ≤ w' → p ≤ p' → trace_verdict n k null target w p ≡ None → trace_verdict n k null target w' p' ≡ None
@@ -71,25 +71,17 @@ module _ {V : Type 0} (m : Algebra V) (s : Settled) (arcs : List Arc) (lengths v
 
   unopened_by : (v : Option Refusal) (q : Settled × Refusal) → verdict ≡ v → TraceDone v s target (Err q) → Taken m (Resting s) before (Trace target w p) (Refused q.1) (Resting q.0) before
   unopened_by None q e done = absurd done
-  unopened_by (Some why) q e done = record {
-    step = λ n log o kept.
-        let h = o.holds.holds in
-        let back : s ≡ q.0 = (let x : (s, why) ≡ q = cc in ap (λ (y : Settled × Refusal). y.0) x) in
-        let reason : q.1 ≡ why = (let x : q ≡ (s, why) = cc in ap (λ (y : Settled × Refusal). y.1) x) in (
-          (
-            record {
-              taken = ap (λ k. same k resting) o.at;
-              answered = record { null = s.null; null_told = h.null_told; answer = ap Refused reason ∙ ap (λ v. as_done (judged v tt)) (sym e ∙ as_lent _ _ h.draft.nodes h.width) };
-            },
-            kept,
-          ),
+  unopened_by (Some why) q e done =
+      let back : s ≡ q.0 = (let x : (s, why) ≡ q = cc in ap (λ (y : Settled × Refusal). y.0) x) in
+      let reason : q.1 ≡ why = (let x : q ≡ (s, why) = cc in ap (λ (y : Settled × Refusal). y.1) x) in
+      declined_taken m _ _ _ _ _ q.1 refl (λ r. refl) refl refl (λ n log o.
+        let h = o.holds.holds in (
           record {
-            at = o.at;
-            holds = subst (λ r. Rests m n (network n log) r q.0 before) (either_way (is_circuit q.1) (rows log)) (subst (λ x. Rests m n (network n log) (rows log) x before) back o.holds);
+            taken = ap (λ k. same k resting) o.at;
+            answered = record { null = s.null; null_told = h.null_told; answer = ap Refused reason ∙ ap (λ v. as_done (judged v tt)) (sym e ∙ as_lent _ _ h.draft.nodes h.width) };
           },
-          inr (sym (either_way (is_circuit q.1) (rows log)), refl, refl),
-        );
-  }
+          subst (λ x. Rests m n (network n log) (rows log) x before) back o.holds,
+        ))
 
   pub unopened_taken : (q : Settled × Refusal) → TraceDone verdict s target (Err q) → Taken m (Resting s) before (Trace target w p) (Refused q.1) (Resting q.0) before
   unopened_taken q done = unopened_by verdict q refl done
