@@ -1,4 +1,7 @@
 // The lines of a list of calls.
+ghost use Rattle.std.specs.Prelude.{◌≡◌};
+ghost use Rattle.replay.specs.declared.reading.LineError.TheVariants.{Order, Memory};
+
 use columns::Columns;
 use journal::Call;
 use routes::{Kind, read_leg};
@@ -18,12 +21,16 @@ pub enum LineError {
 }
 
 impl From<Refusal> for LineError {
+    ghost from_gives = { λ why r. r ≡ Order why };
+
     fn from(why: Refusal) -> LineError {
         LineError::Order(why)
     }
 }
 
 impl From<AllocError> for LineError {
+    ghost from_gives = { λ _ r. r ≡ Memory };
+
     fn from(_error: AllocError) -> LineError {
         LineError::Memory
     }
