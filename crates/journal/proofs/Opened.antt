@@ -31,10 +31,10 @@ module _ {V : Type 0} (m : Algebra V) (s : Settled) (arcs : List Arc) (lengths v
   verdict = trace_verdict s.draft.nodes s.order.k s.null target (length (take w' work)) (length (take p' path))
 
   lent_work : length (take w' work) ≡ min w (length work)
-  lent_work = length-take w' work ∙ (let z : min w' (length work) ≡ min w (length work) = omega arith in z)
+  lent_work = omega (arith, length-take w' work)
 
   lent_path : length (take p' path) ≡ min p (length path)
-  lent_path = length-take p' path ∙ (let z : min p' (length path) ≡ min p (length path) = omega arith in z)
+  lent_path = omega (arith, length-take p' path)
 
   -- the verdict over the session is that over the network, the rows and the cells that are lent
   as_lent : (n k : ℕ) → s.draft.nodes ≡ n → s.order.k ≡ k → verdict ≡ trace_verdict n k s.null target (min w (length work)) (min p (length path))
@@ -75,13 +75,13 @@ module _ {V : Type 0} (m : Algebra V) (s : Settled) (arcs : List Arc) (lengths v
       let back : s ≡ q.0 = (let x : (s, why) ≡ q = cc in ap (λ (y : Settled × Refusal). y.0) x) in
       let reason : q.1 ≡ why = (let x : q ≡ (s, why) = cc in ap (λ (y : Settled × Refusal). y.1) x) in
       declined_taken m _ _ _ _ _ q.1 refl (λ r. refl) refl refl (λ n log o.
-        let h = o.holds.holds in (
-          record {
-            taken = ap (λ k. same k resting) o.at;
-            answered = record { null = s.null; null_told = h.null_told; answer = ap Refused reason ∙ ap (λ v. as_done (judged v tt)) (sym e ∙ as_lent _ _ h.draft.nodes h.width) };
-          },
-          subst (λ x. Rests m n (network n log) (rows log) x before) back o.holds,
-        ))
+      let h = o.holds.holds in (
+        record {
+          taken = ap (λ k. same k resting) o.at;
+          answered = record { null = s.null; null_told = h.null_told; answer = ap Refused reason ∙ ap (λ v. as_done (judged v tt)) (sym e ∙ as_lent _ _ h.draft.nodes h.width) };
+        },
+        subst (λ x. Rests m n (network n log) (rows log) x before) back o.holds,
+      ))
 
   pub unopened_taken : (q : Settled × Refusal) → TraceDone verdict s target (Err q) → Taken m (Resting s) before (Trace target w p) (Refused q.1) (Resting q.0) before
   unopened_taken q done = unopened_by verdict q refl done

@@ -50,10 +50,10 @@ module _ {V : Type 0} (m : Algebra V) (d : Draft) (o : Order) (v c : ℕ) (arcs 
   verdict n = begin_verdict n o.k o.source (length (take v' values)) (length (take c' counts))
 
   lent_values : length (take v' values) ≡ min v (length values)
-  lent_values = length-take v' values ∙ (let z : min v' (length values) ≡ min v (length values) = omega arith in z)
+  lent_values = omega (arith, length-take v' values)
 
   lent_counts : length (take c' counts) ≡ min c (length counts)
-  lent_counts = length-take c' counts ∙ (let z : min c' (length counts) ≡ min c (length counts) = omega arith in z)
+  lent_counts = omega (arith, length-take c' counts)
 
   -- the verdict over the draft is that over the network and the cells that are lent
   as_lent : (net : Net V) → d.nodes ≡ net.nodes → verdict d.nodes ≡ begin_verdict net.nodes o.k o.source (min v (length values)) (min c (length counts))

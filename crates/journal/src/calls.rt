@@ -44,7 +44,7 @@ pub enum Call<M> {
     Reopen,
 }
 
-// What a call answered.
+// What a call answered. No `Result`: to a log a refusal is one of the answers.
 #[derive(Clone, Copy, PartialEq, Eq, Debug)]
 pub enum Answer<M> {
     Refused(Refusal),
