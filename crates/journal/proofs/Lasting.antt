@@ -4,17 +4,16 @@ use Rattle.std.proofs.lemmas.List.{get_or_append_left, get_or-append_right}
 use Rattle.std.proofs.lemmas.Bool.Decides.{nat_tests}
 use Rattle.measure.specs.Algebra.{Algebra}
 use Rattle.walks.specs.Rows.{In}
-use Rattle.sweeps.specs.declared.Arc.{Arc}
 use Rattle.sweeps.specs.declared.refusal.Refusal.{Refusal}
 use Rattle.sweeps.specs.declared.refusal.Refusal.TheVariants.{NoSuchArc, TooLong}
-use Rattle.sweeps.specs.Tables.{no_arc, arc_at, length_at}
+use Rattle.sweeps.specs.Tables.{arc_at}
 use Rattle.session.specs.Nets.{Net, new_arc, marked}
 use Rattle.session.specs.Drafts.{outside, judged, relength_verdict, mark_verdict}
 use Rattle.journal.specs.declared.calls.Call.{Call}
-use Rattle.journal.specs.declared.calls.Call.TheVariants.{Put, Relength, Close, Open, Solve, Length, Trace, Next, Finish, Reopen}
+use Rattle.journal.specs.declared.calls.Call.TheVariants.{Put, Relength, Close, Open}
 use Rattle.journal.specs.declared.calls.Answer.{Answer}
 use Rattle.journal.specs.declared.calls.Answer.TheVariants.{Numbered}
-use Rattle.journal.specs.Answers.{accepted, as_numbered, as_done}
+use Rattle.journal.specs.Answers.{accepted, told, as_done}
 use Rattle.journal.specs.Logs.{Logged, changed, network}
 use Rattle.journal.specs.Histories.{NoneAfter}
 
@@ -42,57 +41,46 @@ module _ {X : Type 0} (P Q : X → Type 0) where
           let g : xs ≡ ys ++ (w.it ∷ w.older) = cc in
           inr (subst (λ z. ¬ Q z) f (none y (inl refl)), record { newer = ys; it = w.it; older = w.older; split = g; is = w.is; none = λ z i. none z (inr i) })
 
--- an arc of a longer table
-pub arc_kept : (arcs more : List Arc) (a : ℕ) → a ≤ length arcs → arc_at (arcs ++ more) a ≡ arc_at arcs a
-arc_kept arcs more zero h = refl
-arc_kept arcs more (suc a) h = get_or_append_left arcs more no_arc a (omega arith)
+-- Item a of a list, counted from 1, and d for 0: an arc or a length by its number.
+module _ {X : Type 0} (d : X) where
+  abbrev item : List X → ℕ → X
+  item xs zero = d
+  item xs (suc a) = get_or xs a d
 
-pub arc_new : (arcs : List Arc) (x : Arc) (a : ℕ) → a ≡ length arcs + 1 → arc_at (arcs ++ x ∷ []) a ≡ x
-arc_new arcs x zero h = absurd (omega arith)
-arc_new arcs x (suc a) h = get_or-append_right arcs (x ∷ []) (length arcs) a no_arc refl (omega arith) ∙ ap (λ i. get_or (x ∷ []) i no_arc) (let z : a - length arcs ≡ 0 = omega arith in z)
+  pub item_kept : (xs more : List X) (a : ℕ) → a ≤ length xs → item (xs ++ more) a ≡ item xs a
+  item_kept xs more zero h = refl
+  item_kept xs more (suc a) h = get_or_append_left xs more d a (omega arith)
 
-pub arc_set : (arcs : List Arc) (a : ℕ) (x : Arc) → 1 ≤ a → a ≤ length arcs → arc_at (set arcs (a - 1) x) a ≡ x
-arc_set arcs zero x low high = absurd (omega arith)
-arc_set arcs (suc a) x low high = let e : suc a - 1 ≡ a = omega arith in ap (λ i. get_or (set arcs i x) a no_arc) e ∙ get_or-set_same arcs a x no_arc (omega arith)
+  pub item_new : (xs : List X) (x : X) (a : ℕ) → a ≡ length xs + 1 → item (xs ++ x ∷ []) a ≡ x
+  item_new xs x zero h = absurd (omega arith)
+  item_new xs x (suc a) h = get_or-append_right xs (x ∷ []) (length xs) a d refl (omega arith) ∙ ap (λ i. get_or (x ∷ []) i d) (let z : a - length xs ≡ 0 = omega arith in z)
 
-pub arc_other : (arcs : List Arc) (a b : ℕ) (x : Arc) → 1 ≤ b → ¬ (a ≡ b) → arc_at (set arcs (b - 1) x) a ≡ arc_at arcs a
-arc_other arcs zero b x low ne = refl
-arc_other arcs (suc a) b x low ne = get_or-set_other arcs (b - 1) a x no_arc (λ e. ne (omega arith))
+  pub item_set : (xs : List X) (a : ℕ) (x : X) → 1 ≤ a → a ≤ length xs → item (set xs (a - 1) x) a ≡ x
+  item_set xs zero x low high = absurd (omega arith)
+  item_set xs (suc a) x low high = let e : suc a - 1 ≡ a = omega arith in ap (λ i. get_or (set xs i x) a d) e ∙ get_or-set_same xs a x d (omega arith)
+
+  pub item_other : (xs : List X) (a b : ℕ) (x : X) → 1 ≤ b → ¬ (a ≡ b) → item (set xs (b - 1) x) a ≡ item xs a
+  item_other xs zero b x low ne = refl
+  item_other xs (suc a) b x low ne = get_or-set_other xs (b - 1) a x d (λ e. ne (omega arith))
 
 module _ {V : Type 0} (m : Algebra V) where
-  pub length_kept : (lengths more : List V) (a : ℕ) → a ≤ length lengths → length_at m (lengths ++ more) a ≡ length_at m lengths a
-  length_kept lengths more zero h = refl
-  length_kept lengths more (suc a) h = get_or_append_left lengths more m.null a (omega arith)
-
-  pub length_new : (lengths : List V) (x : V) (a : ℕ) → a ≡ length lengths + 1 → length_at m (lengths ++ x ∷ []) a ≡ x
-  length_new lengths x zero h = absurd (omega arith)
-  length_new lengths x (suc a) h = get_or-append_right lengths (x ∷ []) (length lengths) a m.null refl (omega arith) ∙ ap (λ i. get_or (x ∷ []) i m.null) (let z : a - length lengths ≡ 0 = omega arith in z)
-
-  pub length_set_at : (lengths : List V) (a : ℕ) (x : V) → 1 ≤ a → a ≤ length lengths → length_at m (set lengths (a - 1) x) a ≡ x
-  length_set_at lengths zero x low high = absurd (omega arith)
-  length_set_at lengths (suc a) x low high = let e : suc a - 1 ≡ a = omega arith in ap (λ i. get_or (set lengths i x) a m.null) e ∙ get_or-set_same lengths a x m.null (omega arith)
-
-  pub length_other : (lengths : List V) (a b : ℕ) (x : V) → 1 ≤ b → ¬ (a ≡ b) → length_at m (set lengths (b - 1) x) a ≡ length_at m lengths a
-  length_other lengths zero b x low ne = refl
-  length_other lengths (suc a) b x low ne = get_or-set_other lengths (b - 1) a x m.null (λ e. ne (omega arith))
-
   -- accepted answers, by what was tested
   pub mark_fits : (count a : ℕ) (r : Answer V) → r ≡ as_done (judged (mark_verdict count a) tt) → accepted r ≡ true → (1 ≤ a) × (a ≤ count)
   mark_fits count a r e t = go (outside count a) refl
     where
       go : (b : Bool) → outside count a ≡ b → (1 ≤ a) × (a ≤ count)
-      go true f = absurd (let g = e ∙ ap (λ b. as_done {V = V} (judged (cond b (Some NoSuchArc) None) tt)) f in let h = sym t ∙ ap accepted g in let z : ◌≡◌ {A = ℕ} 0 1 = cc in omega arith)
+      go true f = absurd (let g = e ∙ ap (λ b. as_done {V = V} (judged (cond b (Some NoSuchArc) None) tt)) f in let h = sym t ∙ ap accepted g in cc)
       go false f = (grind (arith, nat_tests), grind (arith, nat_tests))
 
   pub relength_fits : (count a : ℕ) (x : V) (r : Answer V) → r ≡ as_done (judged (relength_verdict m count a x) tt) → accepted r ≡ true → (1 ≤ a) × (a ≤ count)
   relength_fits count a x r e t = go (outside count a) refl
     where
       go : (b : Bool) → outside count a ≡ b → (1 ≤ a) × (a ≤ count)
-      go true f = absurd (let g = e ∙ ap (λ b. as_done {V = V} (judged (cond b (Some NoSuchArc) (cond (ltb (10 ^ 9) (m.magnitude x)) (Some TooLong) None)) tt)) f in let h = sym t ∙ ap accepted g in let z : ◌≡◌ {A = ℕ} 0 1 = cc in omega arith)
+      go true f = absurd (let g = e ∙ ap (λ b. as_done {V = V} (judged (cond b (Some NoSuchArc) (cond (ltb (10 ^ 9) (m.magnitude x)) (Some TooLong) None)) tt)) f in let h = sym t ∙ ap accepted g in cc)
       go false f = (grind (arith, nat_tests), grind (arith, nat_tests))
 
-  pub put_number : (w : Option Refusal) (i : ℕ) (r : Answer V) → r ≡ as_numbered (judged w i) → accepted r ≡ true → r ≡ Numbered i
-  put_number (Some why) i r e t = absurd (let h = sym t ∙ ap accepted e in let z : ◌≡◌ {A = ℕ} 0 1 = cc in omega arith)
+  pub put_number : (w : Option Refusal) (i : ℕ) (r : Answer V) → r ≡ told Numbered (judged w i) → accepted r ≡ true → r ≡ Numbered i
+  put_number (Some why) i r e t = absurd (let h = sym t ∙ ap accepted e in cc)
   put_number None i r e t = e
 
   pub same_number : (r : Answer V) (i j : ℕ) → r ≡ Numbered i → r ≡ Numbered j → i ≡ j
@@ -104,12 +92,7 @@ module _ {V : Type 0} (m : Algebra V) where
   paired (Relength a x) net e = length-set net.lengths (a - 1) x ∙ e
   paired (Close a) net e = e ∙ sym (length-set net.arcs (a - 1) (marked false (arc_at net.arcs a)))
   paired (Open a) net e = e ∙ sym (length-set net.arcs (a - 1) (marked true (arc_at net.arcs a)))
-  paired (Solve order v c) net e = e
-  paired (Length j place) net e = e
-  paired (Trace j w p) net e = e
-  paired Next net e = e
-  paired Finish net e = e
-  paired Reopen net e = e
+  paired _ net e = e
 
   pub beside : (n : ℕ) (log : List (Logged V)) → length (network n log).lengths ≡ length (network n log).arcs
   beside n [] = refl
@@ -122,15 +105,9 @@ module _ {V : Type 0} (m : Algebra V) where
   -- no call takes an arc away
   more : (call : Call V) (net : Net V) → length net.arcs ≤ length (changed call net).arcs
   more (Put start end x) net = omega (arith, length-append net.arcs (new_arc start end ∷ []))
-  more (Relength a x) net = omega arith
   more (Close a) net = omega (arith, length-set net.arcs (a - 1) (marked false (arc_at net.arcs a)))
   more (Open a) net = omega (arith, length-set net.arcs (a - 1) (marked true (arc_at net.arcs a)))
-  more (Solve order v c) net = omega arith
-  more (Length j place) net = omega arith
-  more (Trace j w p) net = omega arith
-  more Next net = omega arith
-  more Finish net = omega arith
-  more Reopen net = omega arith
+  more _ net = omega arith
 
   pub grows : (n : ℕ) (l : Logged V) (log : List (Logged V)) → length (network n log).arcs ≤ length (network n (l ∷ log)).arcs
   grows n l log = go (accepted l.answer)

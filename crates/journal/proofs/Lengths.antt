@@ -5,13 +5,13 @@ use Rattle.measure.specs.Algebra.{Algebra}
 use Rattle.sweeps.specs.Tables.{arc_at, length_at}
 use Rattle.session.specs.Nets.{Net, new_arc, marked}
 use Rattle.journal.specs.declared.calls.Call.{Call}
-use Rattle.journal.specs.declared.calls.Call.TheVariants.{Put, Relength, Close, Open, Solve, Length, Trace, Next, Finish, Reopen}
+use Rattle.journal.specs.declared.calls.Call.TheVariants.{Put, Relength, Close, Open}
 use Rattle.journal.specs.declared.calls.Answer.TheVariants.{Numbered}
 use Rattle.journal.specs.Answers.{accepted}
 use Rattle.journal.specs.Logs.{Logged, changed, network, rows, target, handed}
 use Rattle.journal.specs.Promise.{Answered, Kept}
 use Rattle.journal.specs.Histories.{NoneAfter, Gives, GivesLength, LastLengths}
-use Rattle.journal.proofs.Lasting.{here, later, length_kept, length_new, length_set_at, length_other, relength_fits, put_number, same_number, beside}
+use Rattle.journal.proofs.Lasting.{here, later, item_kept, item_new, item_set, item_other, relength_fits, put_number, same_number, beside}
 
 module _ {V : Type 0} (m : Algebra V) where
   module _ (a : ℕ) where
@@ -35,13 +35,13 @@ module _ {V : Type 0} (m : Algebra V) where
           go : Dec (length net.arcs < a) → LengthAs (length_at m (net.lengths ++ x ∷ []) a) (l ∷ log)
           go (yes lt) =
               let new : a ≡ length net.arcs + 1 = omega (arith, length-append net.arcs (new_arc start end ∷ [])) in
-              let e = length_new m net.lengths x a (new ∙ ap (λ i. i + 1) (sym (beside m n log))) in
+              let e = item_new m.null net.lengths x a (new ∙ ap (λ i. i + 1) (sym (beside m n log))) in
               subst (λ y. LengthAs y (l ∷ log)) (sym e) (here _ _ l log (inl (start, end, record { is = is; number = number ∙ ap Numbered (sym new) })))
           go (no le) =
-              let e = length_kept m net.lengths (x ∷ []) a (let b = beside m n log in omega arith) in
+              let e = item_kept m.null net.lengths (x ∷ []) a (let b = beside m n log in omega arith) in
               subst (λ y. LengthAs y (l ∷ log)) (sym e)
               (unmoved _ l log
-              (λ g. ⊎_elim (λ p. le (let f : a ≡ length net.arcs + 1 = same_number m l.answer a _ p.2.number number in omega arith)) (λ p. let y = p.is in let z : ◌≡◌ {A = ℕ} 0 1 = cc in omega arith) g.1)
+              (λ g. ⊎_elim (λ p. le (let f : a ≡ length net.arcs + 1 = same_number m l.answer a _ p.2.number number in omega arith)) (λ p. cc) g.1)
               (before (omega arith)))
       length_by (Relength b x) is took r high = go (ℕ_discrete a b)
         where
@@ -50,37 +50,26 @@ module _ {V : Type 0} (m : Algebra V) where
 
           go : Dec (a ≡ b) → LengthAs (length_at m (set net.lengths (b - 1) x) a) (l ∷ log)
           go (yes e) =
-              let f = ap (λ i. length_at m (set net.lengths (b - 1) x) i) e ∙ length_set_at m net.lengths b x fits.0 (let h = beside m n log in let k = fits.1 in omega arith) in
+              let f = ap (λ i. length_at m (set net.lengths (b - 1) x) i) e ∙ item_set m.null net.lengths b x fits.0 (let h = beside m n log in let k = fits.1 in omega arith) in
               subst (λ y. LengthAs y (l ∷ log)) (sym f) (here _ _ l log (inr record { is = is ∙ ap (λ i. Relength i x) (sym e); taken = took }))
           go (no ne) =
-              subst (λ y. LengthAs y (l ∷ log)) (sym (length_other m net.lengths a b x fits.0 ne))
+              subst (λ y. LengthAs y (l ∷ log)) (sym (item_other m.null net.lengths a b x fits.0 ne))
               (unmoved _ l log
-              (λ g. ⊎_elim (λ p. let y = p.2.is in let z : ◌≡◌ {A = ℕ} 0 1 = cc in omega arith) (λ p. ne (let y = p.is in cc)) g.1)
+              (λ g. ⊎_elim (λ p. cc) (λ p. ne (cc)) g.1)
               (before high))
       length_by (Close b) is took r high =
-          unmoved _ l log (λ g. ⊎_elim (λ p. let y = p.2.is in let z : ◌≡◌ {A = ℕ} 0 1 = cc in omega arith) (λ p. let y = p.is in let z : ◌≡◌ {A = ℕ} 0 1 = cc in omega arith) g.1)
+          unmoved _ l log (λ g. ⊎_elim (λ p. cc) (λ p. cc) g.1)
           (before (omega (arith, length-set net.arcs (b - 1) (marked false (arc_at net.arcs b)))))
       length_by (Open b) is took r high =
-          unmoved _ l log (λ g. ⊎_elim (λ p. let y = p.2.is in let z : ◌≡◌ {A = ℕ} 0 1 = cc in omega arith) (λ p. let y = p.is in let z : ◌≡◌ {A = ℕ} 0 1 = cc in omega arith) g.1)
+          unmoved _ l log (λ g. ⊎_elim (λ p. cc) (λ p. cc) g.1)
           (before (omega (arith, length-set net.arcs (b - 1) (marked true (arc_at net.arcs b)))))
-      length_by (Solve order v c) is took r high =
-          unmoved _ l log (λ g. ⊎_elim (λ p. let y = p.2.is in let z : ◌≡◌ {A = ℕ} 0 1 = cc in omega arith) (λ p. let y = p.is in let z : ◌≡◌ {A = ℕ} 0 1 = cc in omega arith) g.1) (before high)
-      length_by (Length j place) is took r high =
-          unmoved _ l log (λ g. ⊎_elim (λ p. let y = p.2.is in let z : ◌≡◌ {A = ℕ} 0 1 = cc in omega arith) (λ p. let y = p.is in let z : ◌≡◌ {A = ℕ} 0 1 = cc in omega arith) g.1) (before high)
-      length_by (Trace j w p) is took r high =
-          unmoved _ l log (λ g. ⊎_elim (λ p. let y = p.2.is in let z : ◌≡◌ {A = ℕ} 0 1 = cc in omega arith) (λ p. let y = p.is in let z : ◌≡◌ {A = ℕ} 0 1 = cc in omega arith) g.1) (before high)
-      length_by Next is took r high =
-          unmoved _ l log (λ g. ⊎_elim (λ p. let y = p.2.is in let z : ◌≡◌ {A = ℕ} 0 1 = cc in omega arith) (λ p. let y = p.is in let z : ◌≡◌ {A = ℕ} 0 1 = cc in omega arith) g.1) (before high)
-      length_by Finish is took r high =
-          unmoved _ l log (λ g. ⊎_elim (λ p. let y = p.2.is in let z : ◌≡◌ {A = ℕ} 0 1 = cc in omega arith) (λ p. let y = p.is in let z : ◌≡◌ {A = ℕ} 0 1 = cc in omega arith) g.1) (before high)
-      length_by Reopen is took r high =
-          unmoved _ l log (λ g. ⊎_elim (λ p. let y = p.2.is in let z : ◌≡◌ {A = ℕ} 0 1 = cc in omega arith) (λ p. let y = p.is in let z : ◌≡◌ {A = ℕ} 0 1 = cc in omega arith) g.1) (before high)
+      length_by _ is took r high = unmoved _ l log (λ g. ⊎_elim (λ p. cc) (λ p. cc) g.1) (before high)
 
       length_if : (b : Bool) → accepted l.answer ≡ b → Answered m net (rows log) (target log) (handed log) l.call l → a ≤ length (cond b (changed l.call net) net).arcs → LengthAs (length_at m (cond b (changed l.call net) net).lengths a) (l ∷ log)
       length_if true e r high = length_by l.call refl e r high
       length_if false e r high =
           unmoved _ l log
-          (λ g. ⊎_elim (λ p. let y = ap accepted p.2.number in let z : ◌≡◌ {A = ℕ} 0 1 = cc in omega arith) (λ p. let y = p.taken in let z : ◌≡◌ {A = ℕ} 0 1 = cc in omega arith) g.1)
+          (λ g. ⊎_elim (λ p. cc (ap accepted p.2.number)) (λ p. cc) g.1)
           (before high)
 
     given : (n : ℕ) (log : List (Logged V)) → Kept m n log → 1 ≤ a → a ≤ length (network n log).arcs → LengthAs (length_at m (network n log).lengths a) log

@@ -5,6 +5,7 @@ pub mod Solved
 pub mod Rested
 pub mod Opened
 pub mod Traced
+pub mod Keeping
 pub mod Answering
 pub mod Lasting
 pub mod Marks

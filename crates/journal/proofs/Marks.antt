@@ -3,15 +3,15 @@ use Rattle.std.proofs.Common.{◌≡◌, ℕ, ◌+◌, ◌-◌, ◌<◌, ◌≤�
 use native.Mathlib.Decide.{dec_lt, ℕ_discrete}
 use Rattle.measure.specs.Algebra.{Algebra}
 use Rattle.sweeps.specs.declared.Arc.{Arc}
-use Rattle.sweeps.specs.Tables.{arc_at}
+use Rattle.sweeps.specs.Tables.{no_arc, arc_at}
 use Rattle.session.specs.Nets.{Net, new_arc, marked}
 use Rattle.journal.specs.declared.calls.Call.{Call}
-use Rattle.journal.specs.declared.calls.Call.TheVariants.{Put, Relength, Close, Open, Solve, Length, Trace, Next, Finish, Reopen}
+use Rattle.journal.specs.declared.calls.Call.TheVariants.{Put, Close, Open}
 use Rattle.journal.specs.Answers.{accepted}
 use Rattle.journal.specs.Logs.{Logged, changed, network, rows, target, handed}
 use Rattle.journal.specs.Promise.{Answered, Kept}
 use Rattle.journal.specs.Histories.{NoneAfter, Made, ClosedExactly}
-use Rattle.journal.proofs.Lasting.{here, later, which, arc_kept, arc_new, arc_set, arc_other, mark_fits, beside, grows}
+use Rattle.journal.proofs.Lasting.{here, later, which, item_kept, item_new, item_set, item_other, mark_fits, beside, grows}
 
 module _ {V : Type 0} (m : Algebra V) where
   module _ (a : ℕ) where
@@ -26,8 +26,8 @@ module _ {V : Type 0} (m : Algebra V) where
     known n [] kept w = absurd (none w.newer w.split)
       where
         none : (newer : List (Logged V)) → [] ≡ newer ++ (w.it ∷ w.older) → ⊥
-        none [] e = let z : ◌≡◌ {A = ℕ} 0 1 = cc in omega arith
-        none (y ∷ ys) e = let z : ◌≡◌ {A = ℕ} 0 1 = cc in omega arith
+        none [] e = cc
+        none (y ∷ ys) e = cc
     known n (l ∷ log) kept w =
         let g = grows m n l log in
         ⊎_elim
@@ -44,7 +44,7 @@ module _ {V : Type 0} (m : Algebra V) where
     closing l log p = (λ e. here _ _ l log p, λ w. refl)
 
     opening : (l : Logged V) (log : List (Logged V)) → Made (Open a) l → ClosedAs true (l ∷ log)
-    opening l log p = (λ e. absurd (let z : ◌≡◌ {A = ℕ} 0 1 = cc in omega arith), λ w. ⊎_elim (λ c. absurd (let x = p.is in let y = c.is in let z : ◌≡◌ {A = ℕ} 0 1 = cc in omega arith)) (λ z. absurd (z.0 p)) (which _ _ l log w))
+    opening l log p = (λ e. cc, λ w. ⊎_elim (λ c. cc) (λ z. absurd (z.0 p)) (which _ _ l log w))
 
     module _ (n : ℕ) (l : Logged V) (log : List (Logged V)) (kept : Kept m n log) (low : 1 ≤ a) (before : a ≤ length (network n log).arcs → ClosedAs (arc_at (network n log).arcs a).«open» log) where
       abbrev net : Net V
@@ -54,22 +54,20 @@ module _ {V : Type 0} (m : Algebra V) where
       closed_by (Put start end x) is took r high = go (dec_lt (length net.arcs) a)
         where
           no_close : ¬ Made (Close a) l
-          no_close p = let y = p.is in let z : ◌≡◌ {A = ℕ} 0 1 = cc in omega arith
+          no_close p = cc
 
           no_open : ¬ Made (Open a) l
-          no_open p = let y = p.is in let z : ◌≡◌ {A = ℕ} 0 1 = cc in omega arith
+          no_open p = cc
 
           go : Dec (length net.arcs < a) → ClosedAs (arc_at (net.arcs ++ new_arc start end ∷ []) a).«open» (l ∷ log)
           go (yes lt) =
               let new : a ≡ length net.arcs + 1 = omega (arith, length-append net.arcs (new_arc start end ∷ [])) in
-              let e = ap (λ (r : Arc). r.«open») (arc_new net.arcs (new_arc start end) a new) in
+              let e = ap (λ (r : Arc). r.«open») (item_new no_arc net.arcs (new_arc start end) a new) in
               subst (λ b. ClosedAs b (l ∷ log)) (sym e)
-              (λ f. absurd (let z : ◌≡◌ {A = ℕ} 0 1 = cc in omega arith), λ w. ⊎_elim (λ c. absurd (no_close c)) (λ z. absurd (let k = known n log kept z.1 in omega arith)) (which _ _ l log w))
+              (λ f. cc, λ w. ⊎_elim (λ c. absurd (no_close c)) (λ z. absurd (let k = known n log kept z.1 in omega arith)) (which _ _ l log w))
           go (no le) =
-              let e = ap (λ (r : Arc). r.«open») (arc_kept net.arcs (new_arc start end ∷ []) a (omega arith)) in
+              let e = ap (λ (r : Arc). r.«open») (item_kept no_arc net.arcs (new_arc start end ∷ []) a (omega arith)) in
               subst (λ b. ClosedAs b (l ∷ log)) (sym e) (unmarked _ l log no_close no_open (before (omega arith)))
-      closed_by (Relength b x) is took r high =
-          unmarked _ l log (λ p. let y = p.is in let z : ◌≡◌ {A = ℕ} 0 1 = cc in omega arith) (λ p. let y = p.is in let z : ◌≡◌ {A = ℕ} 0 1 = cc in omega arith) (before high)
       closed_by (Close b) is took r high = go (ℕ_discrete a b)
         where
           fits : (1 ≤ b) × (b ≤ length net.arcs)
@@ -77,12 +75,12 @@ module _ {V : Type 0} (m : Algebra V) where
 
           go : Dec (a ≡ b) → ClosedAs (arc_at (set net.arcs (b - 1) (marked false (arc_at net.arcs b))) a).«open» (l ∷ log)
           go (yes e) =
-              let f = ap (λ i. (arc_at (set net.arcs (b - 1) (marked false (arc_at net.arcs b))) i).«open») e ∙ ap (λ (r : Arc). r.«open») (arc_set net.arcs b (marked false (arc_at net.arcs b)) fits.0 fits.1) in
+              let f = ap (λ i. (arc_at (set net.arcs (b - 1) (marked false (arc_at net.arcs b))) i).«open») e ∙ ap (λ (r : Arc). r.«open») (item_set no_arc net.arcs b (marked false (arc_at net.arcs b)) fits.0 fits.1) in
               subst (λ x. ClosedAs x (l ∷ log)) (sym f) (closing l log record { is = is ∙ ap Close (sym e); taken = took })
           go (no ne) =
-              let f = ap (λ (r : Arc). r.«open») (arc_other net.arcs a b (marked false (arc_at net.arcs b)) fits.0 ne) in
+              let f = ap (λ (r : Arc). r.«open») (item_other no_arc net.arcs a b (marked false (arc_at net.arcs b)) fits.0 ne) in
               subst (λ x. ClosedAs x (l ∷ log)) (sym f)
-              (unmarked _ l log (λ p. ne (let y = p.is in cc)) (λ p. let y = p.is in let z : ◌≡◌ {A = ℕ} 0 1 = cc in omega arith)
+              (unmarked _ l log (λ p. ne (cc)) (λ p. cc)
               (before (omega (arith, length-set net.arcs (b - 1) (marked false (arc_at net.arcs b))))))
       closed_by (Open b) is took r high = go (ℕ_discrete a b)
         where
@@ -91,29 +89,18 @@ module _ {V : Type 0} (m : Algebra V) where
 
           go : Dec (a ≡ b) → ClosedAs (arc_at (set net.arcs (b - 1) (marked true (arc_at net.arcs b))) a).«open» (l ∷ log)
           go (yes e) =
-              let f = ap (λ i. (arc_at (set net.arcs (b - 1) (marked true (arc_at net.arcs b))) i).«open») e ∙ ap (λ (r : Arc). r.«open») (arc_set net.arcs b (marked true (arc_at net.arcs b)) fits.0 fits.1) in
+              let f = ap (λ i. (arc_at (set net.arcs (b - 1) (marked true (arc_at net.arcs b))) i).«open») e ∙ ap (λ (r : Arc). r.«open») (item_set no_arc net.arcs b (marked true (arc_at net.arcs b)) fits.0 fits.1) in
               subst (λ x. ClosedAs x (l ∷ log)) (sym f) (opening l log record { is = is ∙ ap Open (sym e); taken = took })
           go (no ne) =
-              let f = ap (λ (r : Arc). r.«open») (arc_other net.arcs a b (marked true (arc_at net.arcs b)) fits.0 ne) in
+              let f = ap (λ (r : Arc). r.«open») (item_other no_arc net.arcs a b (marked true (arc_at net.arcs b)) fits.0 ne) in
               subst (λ x. ClosedAs x (l ∷ log)) (sym f)
-              (unmarked _ l log (λ p. let y = p.is in let z : ◌≡◌ {A = ℕ} 0 1 = cc in omega arith) (λ p. ne (let y = p.is in cc))
+              (unmarked _ l log (λ p. cc) (λ p. ne (cc))
               (before (omega (arith, length-set net.arcs (b - 1) (marked true (arc_at net.arcs b))))))
-      closed_by (Solve order v c) is took r high =
-          unmarked _ l log (λ p. let y = p.is in let z : ◌≡◌ {A = ℕ} 0 1 = cc in omega arith) (λ p. let y = p.is in let z : ◌≡◌ {A = ℕ} 0 1 = cc in omega arith) (before high)
-      closed_by (Length j place) is took r high =
-          unmarked _ l log (λ p. let y = p.is in let z : ◌≡◌ {A = ℕ} 0 1 = cc in omega arith) (λ p. let y = p.is in let z : ◌≡◌ {A = ℕ} 0 1 = cc in omega arith) (before high)
-      closed_by (Trace j w p) is took r high =
-          unmarked _ l log (λ p. let y = p.is in let z : ◌≡◌ {A = ℕ} 0 1 = cc in omega arith) (λ p. let y = p.is in let z : ◌≡◌ {A = ℕ} 0 1 = cc in omega arith) (before high)
-      closed_by Next is took r high =
-          unmarked _ l log (λ p. let y = p.is in let z : ◌≡◌ {A = ℕ} 0 1 = cc in omega arith) (λ p. let y = p.is in let z : ◌≡◌ {A = ℕ} 0 1 = cc in omega arith) (before high)
-      closed_by Finish is took r high =
-          unmarked _ l log (λ p. let y = p.is in let z : ◌≡◌ {A = ℕ} 0 1 = cc in omega arith) (λ p. let y = p.is in let z : ◌≡◌ {A = ℕ} 0 1 = cc in omega arith) (before high)
-      closed_by Reopen is took r high =
-          unmarked _ l log (λ p. let y = p.is in let z : ◌≡◌ {A = ℕ} 0 1 = cc in omega arith) (λ p. let y = p.is in let z : ◌≡◌ {A = ℕ} 0 1 = cc in omega arith) (before high)
+      closed_by _ is took r high = unmarked _ l log (λ p. cc) (λ p. cc) (before high)
 
       closed_if : (b : Bool) → accepted l.answer ≡ b → Answered m net (rows log) (target log) (handed log) l.call l → a ≤ length (cond b (changed l.call net) net).arcs → ClosedAs (arc_at (cond b (changed l.call net) net).arcs a).«open» (l ∷ log)
       closed_if true e r high = closed_by l.call refl e r high
-      closed_if false e r high = unmarked _ l log (λ p. let y = p.taken in let z : ◌≡◌ {A = ℕ} 0 1 = cc in omega arith) (λ p. let y = p.taken in let z : ◌≡◌ {A = ℕ} 0 1 = cc in omega arith) (before high)
+      closed_if false e r high = unmarked _ l log (λ p. cc) (λ p. cc) (before high)
 
     closed : (n : ℕ) (log : List (Logged V)) → Kept m n log → 1 ≤ a → a ≤ length (network n log).arcs → ClosedAs (arc_at (network n log).arcs a).«open» log
     closed n [] kept low high = absurd (omega arith)

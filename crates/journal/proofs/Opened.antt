@@ -1,5 +1,5 @@
 -- What a trace that is opened, or is not, adds to a log.
-use Rattle.std.proofs.Common.{◌≡◌, ℕ, ◌-◌, ◌≤◌, min, Bool, List, length, take, Some, None, Ok, Err, Option, sym, refl, ap, ◌∙◌, subst, inr, arith, length-take}
+use Rattle.std.proofs.Common.{◌≡◌, ℕ, ◌≤◌, min, Bool, List, length, take, Some, None, Ok, Err, Option, sym, refl, ap, ◌∙◌, subst, inr, arith, length-take}
 use Rattle.std.proofs.lemmas.Bool.Decides.{nat_tests}
 use Rattle.measure.specs.Algebra.{Algebra}
 use Rattle.sweeps.specs.declared.Arc.{Arc}
@@ -13,10 +13,10 @@ use Rattle.session.proofs.Following.{trace_holds}
 use Rattle.journal.specs.declared.calls.Call.TheVariants.{Trace}
 use Rattle.journal.specs.declared.calls.Answer.TheVariants.{Refused, Done}
 use Rattle.journal.specs.declared.stages.Stage.TheVariants.{Resting, Tracing}
-use Rattle.journal.specs.Answers.{is_circuit, as_done}
+use Rattle.journal.specs.Answers.{as_done}
 use Rattle.journal.specs.Logs.{same, resting, network, rows}
 use Rattle.journal.specs.Performs.{Tables, tables, Rests, Taken}
-use Rattle.journal.proofs.Entries.{either_way}
+use Rattle.journal.proofs.Entries.{declined_taken}
 
 -- tables that are large enough stay so when they are larger
 wider : (n k : ℕ) (null : Bool) (target w p w' p' : ℕ) → w ≤ w' → p ≤ p' → trace_verdict n k null target w p ≡ None → trace_verdict n k null target w' p' ≡ None
@@ -28,20 +28,20 @@ module _ {V : Type 0} (m : Algebra V) (s : Settled) (arcs : List Arc) (lengths v
   before = tables arcs lengths values counts work path
 
   abbrev verdict : Option Refusal
-  verdict = trace_verdict s.draft.nodes s.order.k s.null target (length (take (w' - 0) work)) (length (take (p' - 0) path))
+  verdict = trace_verdict s.draft.nodes s.order.k s.null target (length (take w' work)) (length (take p' path))
 
-  lent_work : length (take (w' - 0) work) ≡ min w (length work)
-  lent_work = length-take (w' - 0) work ∙ (let z : min (w' - 0) (length work) ≡ min w (length work) = omega arith in z)
+  lent_work : length (take w' work) ≡ min w (length work)
+  lent_work = omega (arith, length-take w' work)
 
-  lent_path : length (take (p' - 0) path) ≡ min p (length path)
-  lent_path = length-take (p' - 0) path ∙ (let z : min (p' - 0) (length path) ≡ min p (length path) = omega arith in z)
+  lent_path : length (take p' path) ≡ min p (length path)
+  lent_path = omega (arith, length-take p' path)
 
   -- the verdict over the session is that over the network, the rows and the cells that are lent
   as_lent : (n k : ℕ) → s.draft.nodes ≡ n → s.order.k ≡ k → verdict ≡ trace_verdict n k s.null target (min w (length work)) (min p (length path))
   as_lent n k e f = λ j. trace_verdict (e j) (f j) s.null target (lent_work j) (lent_path j)
 
   opened_by : (v : Option Refusal) (t : Tracer) → verdict ≡ v → TraceDone v s target (Ok t) → Taken m (Resting s) before (Trace target w p) Done (Tracing t) before
-  opened_by (Some why) t e done = absurd (let z : ◌≡◌ {A = ℕ} 0 1 = cc in omega arith)
+  opened_by (Some why) t e done = cc
   opened_by None t e done = record {
     step = λ n log o kept.
         let h = o.holds.holds in
@@ -71,25 +71,17 @@ module _ {V : Type 0} (m : Algebra V) (s : Settled) (arcs : List Arc) (lengths v
 
   unopened_by : (v : Option Refusal) (q : Settled × Refusal) → verdict ≡ v → TraceDone v s target (Err q) → Taken m (Resting s) before (Trace target w p) (Refused q.1) (Resting q.0) before
   unopened_by None q e done = absurd done
-  unopened_by (Some why) q e done = record {
-    step = λ n log o kept.
-        let h = o.holds.holds in
-        let back : s ≡ q.0 = (let x : (s, why) ≡ q = cc in ap (λ (y : Settled × Refusal). y.0) x) in
-        let reason : q.1 ≡ why = (let x : q ≡ (s, why) = cc in ap (λ (y : Settled × Refusal). y.1) x) in (
-          (
-            record {
-              taken = ap (λ k. same k resting) o.at;
-              answered = record { null = s.null; null_told = h.null_told; answer = ap Refused reason ∙ ap (λ v. as_done (judged v tt)) (sym e ∙ as_lent _ _ h.draft.nodes h.width) };
-            },
-            kept,
-          ),
-          record {
-            at = o.at;
-            holds = subst (λ r. Rests m n (network n log) r q.0 before) (either_way (is_circuit q.1) (rows log)) (subst (λ x. Rests m n (network n log) (rows log) x before) back o.holds);
-          },
-          inr (sym (either_way (is_circuit q.1) (rows log)), refl, refl),
-        );
-  }
+  unopened_by (Some why) q e done =
+      let back : s ≡ q.0 = (let x : (s, why) ≡ q = cc in ap (λ (y : Settled × Refusal). y.0) x) in
+      let reason : q.1 ≡ why = (let x : q ≡ (s, why) = cc in ap (λ (y : Settled × Refusal). y.1) x) in
+      declined_taken m _ _ _ _ _ q.1 refl (λ r. refl) refl refl (λ n log o.
+      let h = o.holds.holds in (
+        record {
+          taken = ap (λ k. same k resting) o.at;
+          answered = record { null = s.null; null_told = h.null_told; answer = ap Refused reason ∙ ap (λ v. as_done (judged v tt)) (sym e ∙ as_lent _ _ h.draft.nodes h.width) };
+        },
+        subst (λ x. Rests m n (network n log) (rows log) x before) back o.holds,
+      ))
 
   pub unopened_taken : (q : Settled × Refusal) → TraceDone verdict s target (Err q) → Taken m (Resting s) before (Trace target w p) (Refused q.1) (Resting q.0) before
   unopened_taken q done = unopened_by verdict q refl done

@@ -14,12 +14,12 @@ use Rattle.session.specs.Nets.{Net}
 use Rattle.session.specs.Drafts.{judged, DraftHolds}
 use Rattle.session.specs.Settled.{SettledHolds, length_verdict, length_answer, Emptied}
 use Rattle.journal.specs.declared.calls.Call.TheVariants.{Length, Reopen}
-use Rattle.journal.specs.declared.calls.Answer.TheVariants.{Done}
+use Rattle.journal.specs.declared.calls.Answer.TheVariants.{Done, Value}
 use Rattle.journal.specs.declared.stages.Stage.TheVariants.{Drafting, Resting}
-use Rattle.journal.specs.Answers.{is_circuit, as_value}
+use Rattle.journal.specs.Answers.{told}
 use Rattle.journal.specs.Logs.{Logged, same, resting, network, rows}
-use Rattle.journal.specs.Performs.{Tables, tables, Rests, Outcome, Taken}
-use Rattle.journal.proofs.Entries.{either_way, nodes_are}
+use Rattle.journal.specs.Performs.{Tables, tables, Outcome, Taken}
+use Rattle.journal.proofs.Entries.{nodes_are, declined_taken}
 use Rattle.journal.proofs.RowCells.{cleared_held}
 
 module _ {V : Type 0} (m : Algebra V) where
@@ -51,21 +51,13 @@ module _ {V : Type 0} (m : Algebra V) where
 
     pub length_taken : (node place : ℕ) (r : Result (Option V) Refusal)
         → ((net : Net V) (k source : ℕ) (t : Table V) (arcs : List Arc) (lengths : List V) → SettledHolds m net k source t s arcs lengths values counts → r ≡ length_answer m net.nodes k t node place)
-        → Taken m (Resting s) before (Length node place) (as_value r) (Resting s) before
+        → Taken m (Resting s) before (Length node place) (told Value r) (Resting s) before
     length_taken node place (Ok x) meant = record {
       step = λ n log o kept.
-          ((record { taken = ap (λ k. same k resting) o.at; answered = ap as_value (answered node place (Ok x) meant n log o) }, kept), record { at = refl; holds = o.holds }, inr (refl, refl, refl));
+          ((record { taken = ap (λ k. same k resting) o.at; answered = ap (told Value) (answered node place (Ok x) meant n log o) }, kept), record { at = refl; holds = o.holds }, inr (refl, refl, refl));
     }
-    length_taken node place (Err why) meant = record {
-      step = λ n log o kept. (
-        (record { taken = ap (λ k. same k resting) o.at; answered = ap as_value (answered node place (Err why) meant n log o) }, kept),
-        record {
-          at = o.at;
-          holds = subst (λ z. Rests m n (network n log) z s before) (either_way (is_circuit why) (rows log)) o.holds;
-        },
-        inr (sym (either_way (is_circuit why) (rows log)), refl, refl),
-      );
-    }
+    length_taken node place (Err why) meant =
+        declined_taken m _ _ _ _ _ why refl (λ r. refl) refl refl (λ n log o. (record { taken = ap (λ k. same k resting) o.at; answered = ap (told Value) (answered node place (Err why) meant n log o) }, o.holds))
 
     pub reopen_taken : (d : Draft) (values' : List V) (counts' : List ℕ) → d ≡ s.draft → Emptied m s.draft.nodes s.order.k values counts values' counts'
         → Taken m (Resting s) before Reopen Done (Drafting d) (tables arcs lengths values' counts' work path)

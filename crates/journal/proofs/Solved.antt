@@ -1,5 +1,5 @@
 -- What a solve adds to a log.
-use Rattle.std.proofs.Common.{◌≡◌, ℕ, ◌-◌, ◌*◌, min, Bool, true, false, cond, ◌||◌, ltb, List, [], ◌++◌, length, take, Some, None, Ok, Err, Option, sym, refl, ap, ◌∙◌, subst, inl, inr, arith, take-append-drop, length-take}
+use Rattle.std.proofs.Common.{◌≡◌, ℕ, ◌*◌, min, Bool, true, false, cond, ◌||◌, ltb, List, [], ◌++◌, length, take, Some, None, Ok, Err, Option, sym, refl, ap, ◌∙◌, subst, inl, inr, arith, take-append-drop, length-take}
 use borrow.Rule.Slice.PartMut.{post_of}
 use Rattle.measure.specs.Algebra.{Algebra}
 use Rattle.walks.specs.Rows.{Table}
@@ -29,14 +29,14 @@ use Rattle.journal.proofs.RowCells.{held_before, cleared_held, reread, reads}
 
 -- an answer that gives a settled session came of a solve that began
 begun : {V : Type 0} (m : Algebra V) (d : Draft) (o : Order) (values : List V) (counts : List ℕ) (w : Option Refusal) (p : Settled × Found) (ys : List V) (cs : List ℕ) → Given m d o values counts w (Ok p) ys cs → w ≡ None
-begun m d o values counts (Some why) p ys cs g = absurd (let e = g.0 in let z : ◌≡◌ {A = ℕ} 0 1 = cc in omega arith)
+begun m d o values counts (Some why) p ys cs g = absurd (let e = g.0 in cc)
 begun m d o values counts None p ys cs g = refl
 
 -- no solve that does not begin is refused by a circuit
 no_circuit : (a b : Bool) (why : Refusal) → cond a (Some NoSuchNode) (cond b (Some ShortTables) None) ≡ Some why → is_circuit why ≡ false
 no_circuit true b why e = let f : why ≡ NoSuchNode = cc in ap is_circuit f
 no_circuit false true why e = let f : why ≡ ShortTables = cc in ap is_circuit f
-no_circuit false false why e = absurd (let z : ◌≡◌ {A = ℕ} 0 1 = cc in omega arith)
+no_circuit false false why e = cc
 
 module _ {V : Type 0} (m : Algebra V) (d : Draft) (o : Order) (v c : ℕ) (arcs : List Arc) (lengths values : List V) (counts : List ℕ) (work : List Step) (path : List ℕ)
     (v' c' : ℕ) (cut_v : v' ≡ min v (length values)) (cut_c : c' ≡ min c (length counts)) (ys : List V) (cs : List ℕ) where
@@ -44,22 +44,22 @@ module _ {V : Type 0} (m : Algebra V) (d : Draft) (o : Order) (v c : ℕ) (arcs 
   before = tables arcs lengths values counts work path
 
   abbrev after : Tables V
-  after = tables arcs lengths (ys ++ post_of 0 (v' - 0) values) (cs ++ post_of 0 (c' - 0) counts) work path
+  after = tables arcs lengths (ys ++ post_of 0 v' values) (cs ++ post_of 0 c' counts) work path
 
   abbrev verdict : ℕ → Option Refusal
-  verdict n = begin_verdict n o.k o.source (length (take (v' - 0) values)) (length (take (c' - 0) counts))
+  verdict n = begin_verdict n o.k o.source (length (take v' values)) (length (take c' counts))
 
-  lent_values : length (take (v' - 0) values) ≡ min v (length values)
-  lent_values = length-take (v' - 0) values ∙ (let z : min (v' - 0) (length values) ≡ min v (length values) = omega arith in z)
+  lent_values : length (take v' values) ≡ min v (length values)
+  lent_values = omega (arith, length-take v' values)
 
-  lent_counts : length (take (c' - 0) counts) ≡ min c (length counts)
-  lent_counts = length-take (c' - 0) counts ∙ (let z : min (c' - 0) (length counts) ≡ min c (length counts) = omega arith in z)
+  lent_counts : length (take c' counts) ≡ min c (length counts)
+  lent_counts = omega (arith, length-take c' counts)
 
   -- the verdict over the draft is that over the network and the cells that are lent
   as_lent : (net : Net V) → d.nodes ≡ net.nodes → verdict d.nodes ≡ begin_verdict net.nodes o.k o.source (min v (length values)) (min c (length counts))
   as_lent net e = λ j. begin_verdict (e j) o.k o.source (lent_values j) (lent_counts j)
 
-  pub accepted_taken : (p : Settled × Found) → SolveDone m d o (take (v' - 0) values) (take (c' - 0) counts) (Ok p) ys cs
+  pub accepted_taken : (p : Settled × Found) → SolveDone m d o (take v' values) (take c' counts) (Ok p) ys cs
       → ((net : Net V) → DraftHolds m net d arcs lengths → SolveMeant m net o.k o.source (verdict net.nodes) (Ok p) arcs lengths ys cs)
       → Taken m (Drafting d) before (Solve o v c) (Solved p.1.passes p.1.null) (Resting p.0) after
   accepted_taken p done meant = record {
@@ -102,7 +102,7 @@ module _ {V : Type 0} (m : Algebra V) (d : Draft) (o : Order) (v c : ℕ) (arcs 
   }
 
   -- refused before it began, or by a circuit
-  refused_by : (w : Option Refusal) (p : Draft × Refusal) → verdict d.nodes ≡ w → Given m d o (take (v' - 0) values) (take (c' - 0) counts) w (Err p) ys cs
+  refused_by : (w : Option Refusal) (p : Draft × Refusal) → verdict d.nodes ≡ w → Given m d o (take v' values) (take c' counts) w (Err p) ys cs
       → ((net : Net V) → DraftHolds m net d arcs lengths → SolveMeant m net o.k o.source w (Err p) arcs lengths ys cs)
       → Taken m (Drafting d) before (Solve o v c) (Refused p.1) (Drafting p.0) after
   refused_by (Some why) p e given meant = record {
@@ -111,10 +111,10 @@ module _ {V : Type 0} (m : Algebra V) (d : Draft) (o : Order) (v c : ℕ) (arcs 
         let h = out.holds in
         let back : p.0 ≡ d = (let z = given.0 in cc) in
         let reason : p.1 ≡ why = (let z = given.0 in cc) in
-        let other : is_circuit p.1 ≡ false = ap is_circuit reason ∙ no_circuit (ltb d.nodes o.source) (ltb (length (take (v' - 0) values)) (d.nodes * o.k) || ltb (length (take (c' - 0) counts)) d.nodes) why e in
+        let other : is_circuit p.1 ≡ false = ap is_circuit reason ∙ no_circuit (ltb d.nodes o.source) (ltb (length (take v' values)) (d.nodes * o.k) || ltb (length (take c' counts)) d.nodes) why e in
         let lent : Some why ≡ begin_verdict net.nodes o.k o.source (min v (length values)) (min c (length counts)) = sym e ∙ as_lent net h.nodes in
-        let values_as : after.values ≡ values = ap (λ z. z ++ post_of 0 (v' - 0) values) given.1 ∙ take-append-drop (v' - 0) values in
-        let counts_as : after.counts ≡ counts = ap (λ z. z ++ post_of 0 (c' - 0) counts) given.2 ∙ take-append-drop (c' - 0) counts in (
+        let values_as : after.values ≡ values = ap (λ z. z ++ post_of 0 v' values) given.1 ∙ take-append-drop v' values in
+        let counts_as : after.counts ≡ counts = ap (λ z. z ++ post_of 0 c' counts) given.2 ∙ take-append-drop c' counts in (
           (
             record {
               taken = ap (λ k. same k drafting) out.at;
@@ -154,7 +154,7 @@ module _ {V : Type 0} (m : Algebra V) (d : Draft) (o : Order) (v c : ℕ) (arcs 
         );
   }
 
-  pub refused_taken : (p : Draft × Refusal) → SolveDone m d o (take (v' - 0) values) (take (c' - 0) counts) (Err p) ys cs
+  pub refused_taken : (p : Draft × Refusal) → SolveDone m d o (take v' values) (take c' counts) (Err p) ys cs
       → ((net : Net V) → DraftHolds m net d arcs lengths → SolveMeant m net o.k o.source (verdict net.nodes) (Err p) arcs lengths ys cs)
       → Taken m (Drafting d) before (Solve o v c) (Refused p.1) (Drafting p.0) after
   refused_taken p done meant =

@@ -11,14 +11,12 @@ use Rattle.sweeps.specs.declared.Arc.{Arc}
 use Rattle.tracing.specs.declared.Step.{Step}
 use Rattle.tracing.specs.Standing.{newest, HandedOut}
 use Rattle.tracing.proofs.Segments.{segments}
-use Rattle.session.specs.declared.stages.Settled.{Settled}
 use Rattle.session.specs.declared.stages.Trace.{Trace as Tracer}
 use Rattle.session.specs.Nets.{Net, listed}
-use Rattle.session.specs.Settled.{SettledHolds}
 use Rattle.session.specs.Traces.{TraceHolds, PathHanded, PathsOver, NextMeant}
-use Rattle.journal.specs.declared.calls.Call.TheVariants.{Next, Finish}
-use Rattle.journal.specs.declared.calls.Answer.TheVariants.{Done, Path, NoPath}
-use Rattle.journal.specs.declared.stages.Stage.TheVariants.{Resting, Tracing}
+use Rattle.journal.specs.declared.calls.Call.TheVariants.{Next}
+use Rattle.journal.specs.declared.calls.Answer.TheVariants.{Path, NoPath}
+use Rattle.journal.specs.declared.stages.Stage.TheVariants.{Tracing}
 use Rattle.journal.specs.Logs.{Logged, same, tracing, network, rows, target, handed}
 use Rattle.journal.specs.Handing.{FirstLeft, NoneLeft}
 use Rattle.journal.specs.Performs.{Tables, tables, Outcome, Taken}
@@ -125,19 +123,3 @@ module _ {V : Type 0} (m : Algebra V) (laws : Laws m) (t : Tracer) (arcs : List 
             inr (refl, refl, refl),
           );
     }
-
-  pub finish_taken : (s : Settled) → s ≡ t.settled → Taken m (Tracing t) before Finish Done (Resting s) before
-  finish_taken s e = record {
-    step = λ n log o kept. (
-      (record { taken = ap (λ k. same k tracing) o.at; answered = refl }, kept),
-      record {
-        at = refl;
-        holds = record {
-          table = o.holds.table;
-          holds = subst (λ x. SettledHolds m (network n log) (rows log).width (rows log).source o.holds.table x arcs lengths values counts) (sym e) o.holds.holds.settled;
-          rows_held = o.holds.rows_held;
-        };
-      },
-      inr (refl, refl, refl),
-    );
-  }

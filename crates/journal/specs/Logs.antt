@@ -39,57 +39,37 @@ pub data Kind : Type 0 where
 
 abbrev pub same : Kind → Kind → Bool
 same drafting drafting = true
-same drafting resting = false
-same drafting tracing = false
-same resting drafting = false
 same resting resting = true
-same resting tracing = false
-same tracing drafting = false
-same tracing resting = false
 same tracing tracing = true
+same _ _ = false
 
 module _ {V : Type 0} where
   -- the stage that takes a call
   abbrev pub taken_by : Call V → Kind
-  taken_by (Put start end x) = drafting
-  taken_by (Relength a x) = drafting
-  taken_by (Close a) = drafting
-  taken_by (Open a) = drafting
-  taken_by (Solve order v c) = drafting
   taken_by (Length j place) = resting
   taken_by (Trace j w p) = resting
   taken_by Next = tracing
   taken_by Finish = tracing
   taken_by Reopen = resting
+  taken_by _ = drafting
 
   abbrev pub takes : Kind → Call V → Bool
   takes stage call = same stage (taken_by call)
 
   -- how many cells are lent to a call, of tables of these sizes
   abbrev pub lent_to : Call V → Sizes → Sizes
-  lent_to (Put start end x) z = z
-  lent_to (Relength a x) z = z
-  lent_to (Close a) z = z
-  lent_to (Open a) z = z
-  lent_to (Solve order v c) z = record { arcs = z.arcs; lengths = z.lengths; values = min v z.values; counts = min c z.counts; work = z.work; path = z.path }
-  lent_to (Length j place) z = z
-  lent_to (Trace j w p) z = record { arcs = z.arcs; lengths = z.lengths; values = z.values; counts = z.counts; work = min w z.work; path = min p z.path }
-  lent_to Next z = z
-  lent_to Finish z = z
-  lent_to Reopen z = z
+  lent_to (Solve order v c) z = record z { values = min v z.values; counts = min c z.counts }
+  lent_to (Trace j w p) z = record z { work = min w z.work; path = min p z.path }
+  lent_to _ z = z
 
   -- the stage that an accepted call leads to
   abbrev pub leads_to : Call V → Kind
-  leads_to (Put start end x) = drafting
-  leads_to (Relength a x) = drafting
-  leads_to (Close a) = drafting
-  leads_to (Open a) = drafting
   leads_to (Solve order v c) = resting
   leads_to (Length j place) = resting
   leads_to (Trace j w p) = tracing
   leads_to Next = tracing
   leads_to Finish = resting
-  leads_to Reopen = drafting
+  leads_to _ = drafting
 
   -- an accepted call's change to the network
   abbrev pub changed : Call V → Net V → Net V
@@ -97,12 +77,7 @@ module _ {V : Type 0} where
   changed (Relength a x) net = relength_arc net a x
   changed (Close a) net = mark_arc net a false
   changed (Open a) net = mark_arc net a true
-  changed (Solve order v c) net = net
-  changed (Length j place) net = net
-  changed (Trace j w p) net = net
-  changed Next net = net
-  changed Finish net = net
-  changed Reopen net = net
+  changed _ net = net
 
   -- before the first solve
   abbrev pub no_rows : Rows V
@@ -114,55 +89,26 @@ module _ {V : Type 0} where
 
   -- the rows after an accepted call; `left` are those that the call left, if it is a solve
   abbrev pub rows_after : Call V → Table V → Rows V → Rows V
-  rows_after (Put start end x) left rows = rows
-  rows_after (Relength a x) left rows = rows
-  rows_after (Close a) left rows = rows
-  rows_after (Open a) left rows = rows
   rows_after (Solve order v c) left rows = record { width = order.k; source = order.source; at = left }
-  rows_after (Length j place) left rows = rows
-  rows_after (Trace j w p) left rows = rows
-  rows_after Next left rows = rows
-  rows_after Finish left rows = rows
   rows_after Reopen left rows = emptied rows
+  rows_after _ left rows = rows
 
   -- the rows after a call that was refused by a circuit before null
   abbrev pub rows_cleared : Call V → Rows V → Rows V
-  rows_cleared (Put start end x) rows = rows
-  rows_cleared (Relength a x) rows = rows
-  rows_cleared (Close a) rows = rows
-  rows_cleared (Open a) rows = rows
   rows_cleared (Solve order v c) rows = record { width = order.k; source = order.source; at = λ j. [] }
-  rows_cleared (Length j place) rows = rows
-  rows_cleared (Trace j w p) rows = rows
-  rows_cleared Next rows = rows
-  rows_cleared Finish rows = rows
-  rows_cleared Reopen rows = rows
+  rows_cleared _ rows = rows
 
   -- the target after an accepted call
   abbrev pub target_after : Call V → ℕ → ℕ
-  target_after (Put start end x) target = target
-  target_after (Relength a x) target = target
-  target_after (Close a) target = target
-  target_after (Open a) target = target
-  target_after (Solve order v c) target = target
-  target_after (Length j place) target = target
   target_after (Trace j w p) target = j
-  target_after Next target = target
-  target_after Finish target = target
-  target_after Reopen target = target
+  target_after _ target = target
 
   -- the paths handed out after an accepted call; a new trace has handed out none
   abbrev pub handed_after : Call V → Answer V → List ℕ → List (List ℕ) → List (List ℕ)
-  handed_after (Put start end x) a path handed = handed
-  handed_after (Relength i x) a path handed = handed
-  handed_after (Close i) a path handed = handed
-  handed_after (Open i) a path handed = handed
-  handed_after (Solve order v c) a path handed = handed
-  handed_after (Length j place) a path handed = handed
   handed_after (Trace j w p) a path handed = []
   handed_after Next a path handed = and_path a (reverse path) handed
   handed_after Finish a path handed = []
-  handed_after Reopen a path handed = handed
+  handed_after _ a path handed = handed
 
   -- the stage that the calls have led to
   abbrev pub stage : List (Logged V) → Kind

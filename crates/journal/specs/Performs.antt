@@ -12,7 +12,7 @@ use Rattle.session.specs.Drafts.{DraftHolds}
 use Rattle.session.specs.Settled.{SettledHolds}
 use Rattle.session.specs.Traces.{TraceHolds}
 use Rattle.journal.specs.declared.calls.Call.{Call}
-use Rattle.journal.specs.declared.calls.Call.TheVariants.{Put, Relength, Close, Open, Solve, Length, Trace, Next, Finish, Reopen}
+use Rattle.journal.specs.declared.calls.Call.TheVariants.{Solve}
 use Rattle.journal.specs.declared.calls.Answer.{Answer}
 use Rattle.journal.specs.declared.stages.Stage.{Stage}
 use Rattle.journal.specs.declared.stages.Stage.TheVariants.{Drafting, Resting, Tracing}
@@ -43,16 +43,8 @@ module _ {V : Type 0} where
 
   -- how many lengths each row of a solve keeps at most
   abbrev pub width : Call V → ℕ
-  width (Put start end x) = 0
-  width (Relength a x) = 0
-  width (Close a) = 0
-  width (Open a) = 0
   width (Solve order v c) = order.k
-  width (Length j place) = 0
-  width (Trace j w p) = 0
-  width Next = 0
-  width Finish = 0
-  width Reopen = 0
+  width _ = 0
 
   -- the rows of n nodes in the first cells of the tables
   abbrev pub rows_read : ℕ → ℕ → List V → List ℕ → Table V

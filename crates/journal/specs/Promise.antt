@@ -18,7 +18,7 @@ use Rattle.journal.specs.declared.calls.Call.{Call}
 use Rattle.journal.specs.declared.calls.Call.TheVariants.{Put, Relength, Close, Open, Solve, Length, Trace, Next, Finish, Reopen}
 use Rattle.journal.specs.declared.calls.Answer.{Answer}
 use Rattle.journal.specs.declared.calls.Answer.TheVariants.{Refused, Done, Numbered, Solved, Value, Path, NoPath}
-use Rattle.journal.specs.Answers.{as_numbered, as_done, as_value}
+use Rattle.journal.specs.Answers.{told, as_done}
 use Rattle.journal.specs.Logs.{Logged, Rows, takes, stage, network, rows, target, handed}
 use Rattle.journal.specs.Handing.{FirstLeft, NoneLeft}
 
@@ -58,22 +58,18 @@ module _ {V : Type 0} (m : Algebra V) where
     pub first : FirstLeft m (listed m net) rows.source rows.at to given (reverse path)
 
   abbrev pub NextRight : Net V → Rows V → ℕ → List (List ℕ) → Answer V → List ℕ → Type 0
-  NextRight net rows to given (Refused why) path = ⊥
-  NextRight net rows to given Done path = ⊥
-  NextRight net rows to given (Numbered i) path = ⊥
-  NextRight net rows to given (Solved passes null) path = ⊥
-  NextRight net rows to given (Value v) path = ⊥
   NextRight net rows to given (Path count x) path = PathRight net rows to given count x path
   NextRight net rows to given NoPath path = NoneLeft m (listed m net) rows.source rows.at to given
+  NextRight net rows to given _ path = ⊥
 
   -- what is asked of the answer to a call, for the network, the rows, the target and the paths handed out that the calls before it have left
   abbrev pub Answered : Net V → Rows V → ℕ → List (List ℕ) → Call V → Logged V → Type 0
-  Answered net rows to given (Put start end x) l = l.answer ≡ as_numbered (judged (put_verdict m net.nodes (length net.arcs) (last_end net.arcs) l.lent.arcs l.lent.lengths start end x) (length net.arcs + 1))
+  Answered net rows to given (Put start end x) l = l.answer ≡ told Numbered (judged (put_verdict m net.nodes (length net.arcs) (last_end net.arcs) l.lent.arcs l.lent.lengths start end x) (length net.arcs + 1))
   Answered net rows to given (Relength a x) l = l.answer ≡ as_done (judged (relength_verdict m (length net.arcs) a x) tt)
   Answered net rows to given (Close a) l = l.answer ≡ as_done (judged (mark_verdict (length net.arcs) a) tt)
   Answered net rows to given (Open a) l = l.answer ≡ as_done (judged (mark_verdict (length net.arcs) a) tt)
   Answered net rows to given (Solve order v c) l = SolveRight (begin_verdict net.nodes order.k order.source l.lent.values l.lent.counts) net order l
-  Answered net rows to given (Length j place) l = l.answer ≡ as_value (length_answer m net.nodes rows.width rows.at j place)
+  Answered net rows to given (Length j place) l = l.answer ≡ told Value (length_answer m net.nodes rows.width rows.at j place)
   Answered net rows to given (Trace j w p) l = TraceRight net rows j l
   Answered net rows to given Next l = NextRight net rows to given l.answer l.path
   Answered net rows to given Finish l = l.answer ≡ Done

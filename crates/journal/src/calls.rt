@@ -1,4 +1,9 @@
 // The calls of a session and their answers, as values.
+ghost use Rattle.std.specs.Prelude.{◌≡◌, ◌≤◌};
+ghost use Rattle.journal.specs.Answers.{nodes_said, path_said};
+ghost use Rattle.journal.specs.Performs.{width};
+
+use measure::Measure;
 use session::{Order, Refusal};
 
 // A call, with what it is passed. A solve also says how many cells of the value and count tables are lent to it, and a trace how
@@ -39,8 +44,8 @@ pub enum Call<M> {
     Reopen,
 }
 
-// What a call answered.
-#[derive(Clone, Copy)]
+// What a call answered. No `Result`: to a log a refusal is one of the answers.
+#[derive(Clone, Copy, PartialEq, Eq, Debug)]
 pub enum Answer<M> {
     Refused(Refusal),
     Done,
@@ -52,4 +57,40 @@ pub enum Answer<M> {
     // how many arcs the path has, and its length
     Path { count: usize, length: M },
     NoPath,
+}
+
+impl<M: Measure> Call<M> {
+    // How many lengths each row of a solve keeps at most; 0 for the other calls.
+    pub(crate) fn width(self) -> usize
+        ensures is { result ≡ width self }
+        ensures small { result ≤ 20 }
+    {
+        match self {
+            Call::Solve { order, .. } => order.k,
+            _ => 0,
+        }
+    }
+}
+
+impl<M: Measure> Answer<M> {
+    // How many rows the answer speaks of: those of all nodes after an accepted solve, else none.
+    pub(crate) fn rows(self, nodes: usize) -> usize
+        ensures is { result ≡ nodes_said nodes self }
+        ensures small { result ≤ nodes }
+    {
+        match self {
+            Answer::Solved { .. } => nodes,
+            _ => 0,
+        }
+    }
+
+    // How many cells of the path table the answer speaks of.
+    pub(crate) fn arcs(self) -> usize
+        ensures { result ≡ path_said self }
+    {
+        match self {
+            Answer::Path { count, .. } => count,
+            _ => 0,
+        }
+    }
 }

@@ -1,17 +1,25 @@
 // Why a run does not come to its end.
 ghost use Rattle.std.specs.Prelude.{◌≡◌};
-ghost use Rattle.journal.specs.declared.faults.Fault.TheVariants.{Memory};
+ghost use Rattle.journal.specs.declared.faults.Fault.TheVariants.{Declined, Memory};
 
 use session::Refusal;
 use std::alloc::{AllocError, AllocFailed};
 
-#[derive(Drop)]
+#[derive(Clone, Copy, PartialEq, Eq, Debug)]
 pub enum Fault {
     // there is no session of so many nodes
     Declined(Refusal),
     // fewer cells for answers than calls
     ShortAnswers,
     Memory,
+}
+
+impl From<Refusal> for Fault {
+    ghost from_gives = { λ why r. r ≡ Declined why };
+
+    fn from(why: Refusal) -> Fault {
+        Fault::Declined(why)
+    }
 }
 
 impl From<AllocError> for Fault {

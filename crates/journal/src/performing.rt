@@ -1,38 +1,23 @@
 // One call on a session in any stage.
-ghost use Rattle.std.specs.Prelude.{◌≡◌, ℕ, List, Some};
-ghost use Rattle.journal.specs.Answers.{as_numbered, as_done, as_value};
+ghost use Rattle.std.specs.Prelude.{◌≡◌, ℕ, List, Some, MatchResult};
+ghost use Rattle.std.specs.Result.{ForOk};
 ghost use Rattle.journal.specs.Performs.{Went, tables};
 
 use super::{Answer, Call, Stage};
 use measure::Measure;
-use session::{Arc, Draft, Order, Refusal, Settled, Step, Trace};
+use session::{Arc, Draft, Order, Refusal, Settled, Solved, Step, Trace};
 
-// The answer to a put.
-fn numbered<M: Measure>(given: Result<usize, Refusal>) -> Answer<M>
-    ensures { result ≡ as_numbered given }
+// Each table is a parameter of its own: with the slices in a struct, a call that is lent several of its fields is not covered by
+// the check, and each function would need a clause per field that it holds the same slice.
+
+// The answer to a call: that it is refused, or `answer` of what it gave. A constructor is passed in a closure where nothing that it
+// takes names M, since the check does not cover its bare name there.
+fn told<T, M: Measure, F: FnOnce(T) -> Answer<M>>(given: Result<T, Refusal>, answer: F) -> Answer<M>
+    requires { ForOk given (F.pre answer) }
+    ensures { MatchResult given (λ x. F.post answer x result) (λ why. result ≡ Answer.Refused why) }
 {
     match given {
-        Ok(number) => Answer::Numbered(number),
-        Err(why) => Answer::Refused(why),
-    }
-}
-
-// The answer to a call that gives nothing back.
-fn done<M: Measure>(given: Result<(), Refusal>) -> Answer<M>
-    ensures { result ≡ as_done given }
-{
-    match given {
-        Ok(()) => Answer::Done,
-        Err(why) => Answer::Refused(why),
-    }
-}
-
-// The answer to a length.
-fn value<M: Measure>(given: Result<Option<M>, Refusal>) -> Answer<M>
-    ensures { result ≡ as_value given }
-{
-    match given {
-        Ok(length) => Answer::Value(length),
+        Ok(x) => answer(x),
         Err(why) => Answer::Refused(why),
     }
 }
@@ -56,23 +41,13 @@ fn solve<M: Measure>(
         order,
         arcs,
         lengths,
-        &mut values[0..most_values],
-        &mut counts[0..most_counts],
+        &mut values[..most_values],
+        &mut counts[..most_counts],
     ) {
-        Ok(found) => {
-            let (settled, solved) = found;
-            (
-                Stage::Resting(settled),
-                Answer::Solved {
-                    passes: solved.passes,
-                    null: solved.null,
-                },
-            )
+        Ok((settled, Solved { passes, null })) => {
+            (Stage::Resting(settled), Answer::Solved { passes, null })
         }
-        Err(back) => {
-            let (draft, why) = back;
-            (Stage::Drafting(draft), Answer::Refused(why))
-        }
+        Err((draft, why)) => (Stage::Drafting(draft), Answer::Refused(why)),
     }
 }
 
@@ -87,23 +62,16 @@ fn on_draft<M: Measure>(
 ) -> (Stage, Option<Answer<M>>)
     ensures { (work : List Step) (path : List ℕ) → Went M.Measure.algebra (Stage.Drafting draft) (tables arcs.old lengths.old values.old counts.old work path) call result.0 result.1 (tables arcs.new lengths.new values.new counts.new work path) }
 {
-    match call {
-        Call::Put { start, end, length } => {
-            let answer = numbered(draft.put(arcs, lengths, start, end, length));
-            (Stage::Drafting(draft), Some(answer))
-        }
+    let answer = match call {
+        Call::Put { start, end, length } => told(
+            draft.put(arcs, lengths, start, end, length),
+            |number| Answer::Numbered(number),
+        ),
         Call::Relength { arc, length } => {
-            let answer = done(draft.relength(lengths, arc, length));
-            (Stage::Drafting(draft), Some(answer))
+            told(draft.relength(lengths, arc, length), |()| Answer::Done)
         }
-        Call::Close { arc } => {
-            let answer = done(draft.close(arcs, arc));
-            (Stage::Drafting(draft), Some(answer))
-        }
-        Call::Open { arc } => {
-            let answer = done(draft.open(arcs, arc));
-            (Stage::Drafting(draft), Some(answer))
-        }
+        Call::Close { arc } => told(draft.close(arcs, arc), |()| Answer::Done),
+        Call::Open { arc } => told(draft.open(arcs, arc), |()| Answer::Done),
         Call::Solve {
             order,
             values: value_cells,
@@ -119,10 +87,11 @@ fn on_draft<M: Measure>(
                 values,
                 counts,
             );
-            (stage, Some(answer))
+            return (stage, Some(answer));
         }
-        _ => (Stage::Drafting(draft), None),
-    }
+        _ => return (Stage::Drafting(draft), None),
+    };
+    (Stage::Drafting(draft), Some(answer))
 }
 
 // Any call on a settled session, whatever the arc and length tables hold. A trace is lent so many cells of the work and path tables.
@@ -138,7 +107,7 @@ fn on_settled<M: Measure>(
 {
     match call {
         Call::Length { node, place } => {
-            let answer = value(settled.length(values, counts, node, place));
+            let answer = told(settled.length(values, counts, node, place), Answer::Value);
             (Stage::Resting(settled), Some(answer))
         }
         Call::Trace {
@@ -148,18 +117,15 @@ fn on_settled<M: Measure>(
         } => {
             let most_work = work_cells.min(work.len());
             let most_path = path_cells.min(path.len());
-            match settled.trace(target, &work[0..most_work], &path[0..most_path]) {
+            match settled.trace(target, &work[..most_work], &path[..most_path]) {
                 Ok(trace) => (Stage::Tracing(trace), Some(Answer::Done)),
-                Err(back) => {
-                    let (settled, why) = back;
-                    (Stage::Resting(settled), Some(Answer::Refused(why)))
-                }
+                Err((settled, why)) => (Stage::Resting(settled), Some(Answer::Refused(why))),
             }
         }
-        Call::Reopen => {
-            let draft = settled.reopen(values, counts);
-            (Stage::Drafting(draft), Some(Answer::Done))
-        }
+        Call::Reopen => (
+            Stage::Drafting(settled.reopen(values, counts)),
+            Some(Answer::Done),
+        ),
         _ => (Stage::Resting(settled), None),
     }
 }
@@ -179,16 +145,10 @@ fn on_trace<M: Measure>(
 {
     match call {
         Call::Next => match trace.next(arcs, lengths, values, counts, work, path) {
-            Some(found) => {
-                let (count, length) = found;
-                (Stage::Tracing(trace), Some(Answer::Path { count, length }))
-            }
+            Some((count, length)) => (Stage::Tracing(trace), Some(Answer::Path { count, length })),
             None => (Stage::Tracing(trace), Some(Answer::NoPath)),
         },
-        Call::Finish => {
-            let settled = trace.finish();
-            (Stage::Resting(settled), Some(Answer::Done))
-        }
+        Call::Finish => (Stage::Resting(trace.finish()), Some(Answer::Done)),
         _ => (Stage::Tracing(trace), None),
     }
 }

@@ -1,8 +1,7 @@
 // Whole lists of calls on a new session, with the entries of the log on the heap.
 ghost use Rattle.std.specs.Prelude.{◌≡◌, ℕ, ◌≤◌, List, take, IfOk};
-ghost use Rattle.journal.specs.Answers.{nodes_said, path_said};
 ghost use Rattle.journal.specs.Logs.{Sizes};
-ghost use Rattle.journal.specs.Performs.{tables, sizes_of, logged, width};
+ghost use Rattle.journal.specs.Performs.{tables, sizes_of, logged};
 ghost use Rattle.journal.specs.Replays.{shown, Replayed, ReplayEnds};
 
 use super::faults::Fault;
@@ -23,51 +22,11 @@ pub struct Entry<M> {
     pub path: Vec<usize>,
 }
 
-// How many lengths each row of a solve keeps at most; 0 for the other calls.
-fn row_width<M: Measure>(call: Call<M>) -> usize
-    ensures is { result ≡ width call }
-    ensures small { result ≤ 20 }
-{
-    match call {
-        Call::Solve {
-            order,
-            values: _,
-            counts: _,
-        } => order.k,
-        _ => 0,
-    }
-}
-
-// How many rows the answer speaks of: those of all nodes after an accepted solve, else none.
-fn nodes_told<M: Measure>(nodes: usize, answer: Answer<M>) -> usize
-    ensures is { result ≡ nodes_said nodes answer }
-    ensures small { result ≤ nodes }
-{
-    match answer {
-        Answer::Solved { passes: _, null: _ } => nodes,
-        _ => 0,
-    }
-}
-
-// How many cells of the path table the answer speaks of.
-fn path_told<M: Measure>(answer: Answer<M>) -> usize
-    ensures { result ≡ path_said answer }
-{
-    match answer {
-        Answer::Path { count, length: _ } => count,
-        _ => 0,
-    }
-}
-
 // A copy of the first cells, of so many as there are.
 fn first_cells<T: Copy>(heap: Global, cells: &[T], count: usize) -> Result<Vec<T>, AllocError>
     ensures { IfOk result (λ v. v.items ≡ take count cells.now) }
 {
-    if count <= cells.len() {
-        Vec::from_slice(heap, &cells[0..count])
-    } else {
-        Vec::from_slice(heap, cells)
-    }
+    Vec::from_slice(heap, &cells[..count.min(cells.len())])
 }
 
 // The entry for a call and its answer, with what the call left in the tables.
@@ -83,11 +42,10 @@ fn note<M: Measure>(
     requires { nodes ≤ 1000 }
     ensures { IfOk result (λ e. (z : Sizes) (arcs : List Arc) (lengths : List M) (work : List Step) → shown z e ≡ logged nodes call answer z (tables arcs lengths values.now counts.now work path.now)) }
 {
-    let told = nodes_told(nodes, answer);
-    let cells = told * row_width(call);
-    let values = first_cells(heap, values, cells)?;
-    let counts = first_cells(heap, counts, told)?;
-    let path = first_cells(heap, path, path_told(answer))?;
+    let rows = answer.rows(nodes);
+    let values = first_cells(heap, values, rows * call.width())?;
+    let counts = first_cells(heap, counts, rows)?;
+    let path = first_cells(heap, path, answer.arcs())?;
     Ok(Entry {
         call,
         answer,
@@ -112,21 +70,13 @@ pub fn replay<M: Measure>(
 ) -> Result<Vec<Entry<M>>, Fault>
     ensures { ReplayEnds nodes result (λ v. Replayed M.Measure.algebra nodes (sizes_of (tables arcs.old lengths.old values.old counts.old work.old path.old)) calls.now v.items (tables arcs.new lengths.new values.new counts.new work.new path.new)) }
 {
-    let draft = match Draft::new(nodes) {
-        Ok(draft) => draft,
-        Err(why) => return Err(Fault::Declined(why)),
-    };
-    let mut stage = Stage::Drafting(draft);
+    let mut stage = Stage::Drafting(Draft::new(nodes)?);
     let mut entries = Vec::new(heap);
     for call in calls {
         let (next, answer) = perform(stage, *call, arcs, lengths, values, counts, work, path);
         stage = next;
-        match answer {
-            Some(answer) => {
-                let entry = note(heap, nodes, *call, answer, values, counts, path)?;
-                entries.push(entry)?;
-            }
-            None => {}
+        if let Some(answer) = answer {
+            entries.push(note(heap, nodes, *call, answer, values, counts, path)?)?;
         }
     }
     Ok(entries)

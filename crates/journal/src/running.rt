@@ -9,7 +9,8 @@ use super::{Answer, Call, Stage};
 use measure::Measure;
 use session::{Arc, Draft, Step};
 
-// Writes x into a cell.
+// Writes x into a cell. Its own function, since at `Option<Answer<M>>` it is not proved that the cell's place fits, and with
+// `iter_mut().zip(calls)` nothing is known of the cells afterwards.
 fn store<T: Copy>(cells: &mut [T], i: usize, x: T)
     requires { i < length cells.old }
     ensures { cells.new ≡ slice_set cells.old i x }
@@ -33,16 +34,13 @@ pub fn run<M: Measure>(
     ensures ends { RunEnds nodes (length calls.now) (length answers.old) result (Ran M.Measure.algebra nodes (sizes_of (tables arcs.old lengths.old values.old counts.old work.old path.old)) calls.now (take (length calls.now) answers.new) (tables arcs.new lengths.new values.new counts.new work.new path.new)) }
     ensures frame { RunFrame (length calls.now) answers.old (tables arcs.old lengths.old values.old counts.old work.old path.old) result answers.new (tables arcs.new lengths.new values.new counts.new work.new path.new) }
 {
-    let draft = match Draft::new(nodes) {
-        Ok(draft) => draft,
-        Err(why) => return Err(Fault::Declined(why)),
-    };
+    let draft = Draft::new(nodes)?;
     if answers.len() < calls.len() {
         return Err(Fault::ShortAnswers);
     }
     let mut stage = Stage::Drafting(draft);
-    for i in 0..calls.len() {
-        let (next, answer) = perform(stage, calls[i], arcs, lengths, values, counts, work, path);
+    for (i, call) in calls.iter().enumerate() {
+        let (next, answer) = perform(stage, *call, arcs, lengths, values, counts, work, path);
         stage = next;
         store(answers, i, answer);
     }

@@ -4,121 +4,77 @@ use failure::Failure;
 use journal::{Answer, Call, Entry};
 use std::alloc::{AllocError, Global};
 
-// A call as it is written.
+// A call as it is written. No `Display` of a wrapper: `column_text` allocates, and a formatter has no heap.
 fn call_text<M: Columns>(heap: Global, call: &Call<M>) -> Result<String, AllocError> {
-    match *call {
+    match call {
         Call::Put { start, end, length } => {
-            let length = column_text(heap, &length)?;
-            format!(in heap; "put {start} {end} {length}")
+            format!(in heap; "put {start} {end} {}", column_text(heap, length)?)
         }
         Call::Relength { arc, length } => {
-            let length = column_text(heap, &length)?;
-            format!(in heap; "relength {arc} {length}")
+            format!(in heap; "relength {arc} {}", column_text(heap, length)?)
         }
         Call::Close { arc } => format!(in heap; "close {arc}"),
         Call::Open { arc } => format!(in heap; "open {arc}"),
-        Call::Solve {
-            order,
-            values: _,
-            counts: _,
-        } => {
-            let k = order.k;
-            let source = order.source;
-            format!(in heap; "solve {k} {source}")
-        }
+        Call::Solve { order, .. } => format!(in heap; "solve {} {}", order.k, order.source),
         Call::Length { node, place } => format!(in heap; "length {node} {place}"),
-        Call::Trace {
-            target,
-            work: _,
-            path: _,
-        } => format!(in heap; "trace {target}"),
-        Call::Next => String::from_str(heap, "next"),
-        Call::Finish => String::from_str(heap, "finish"),
-        Call::Reopen => String::from_str(heap, "reopen"),
+        Call::Trace { target, .. } => format!(in heap; "trace {target}"),
+        Call::Next => "next".to_string(heap),
+        Call::Finish => "finish".to_string(heap),
+        Call::Reopen => "reopen".to_string(heap),
     }
 }
 
 // An answer in words.
 fn answer_text<M: Columns>(heap: Global, answer: &Answer<M>) -> Result<String, AllocError> {
-    match *answer {
-        Answer::Refused(why) => {
-            let number = why.number();
-            format!(in heap; "refused {number}")
-        }
-        Answer::Done => String::from_str(heap, "done"),
+    match answer {
+        Answer::Refused(why) => format!(in heap; "refused {}", why.number()),
+        Answer::Done => "done".to_string(heap),
         Answer::Numbered(arc) => format!(in heap; "arc {arc}"),
-        Answer::Solved {
-            passes,
-            null: false,
-        } => format!(in heap; "settled after {passes} passes"),
-        Answer::Solved { passes, null: true } => format!(in heap;
-            "settled after {passes} passes, a null circuit is reached"
-        ),
-        Answer::Value(None) => String::from_str(heap, "none"),
-        Answer::Value(Some(length)) => column_text(heap, &length),
-        Answer::Path { count: _, length } => column_text(heap, &length),
-        Answer::NoPath => String::from_str(heap, "no path is left"),
+        Answer::Solved { passes, null } => {
+            let reached = if *null {
+                ", a null circuit is reached"
+            } else {
+                ""
+            };
+            format!(in heap; "settled after {passes} passes{reached}")
+        }
+        Answer::Value(None) => "none".to_string(heap),
+        Answer::Value(Some(length)) | Answer::Path { length, .. } => column_text(heap, length),
+        Answer::NoPath => "no path is left".to_string(heap),
     }
 }
 
-// The line of a node's row: as many lengths as its count says, from a cell on.
-fn row_line<M: Columns>(
-    heap: Global,
-    node: usize,
-    cells: &[M],
-    start: usize,
-    count: usize,
-) -> Result<String, AllocError> {
+// The line of a node's row.
+fn row_line<M: Columns>(heap: Global, node: usize, row: &[M]) -> Result<String, AllocError> {
     let mut line = format!(in heap; "  node {node} lengths")?;
-    if count == 0 {
+    if row.is_empty() {
         line.push_str(" none")?;
     }
-    for place in 0..count {
-        if let Some(length) = cells.get(start.saturating_add(place)) {
-            line.push(' ')?;
-            line.push_str(column_text(heap, length)?.as_str())?;
-        }
+    for length in row {
+        write!(line, " {}", column_text(heap, length)?)?;
     }
     Ok(line)
 }
 
-// The rows that a solve left, a line each; each has K cells.
-fn print_rows<M: Columns>(rt: &HostRuntime, entry: &Entry<M>, k: usize) -> Result<(), Failure> {
-    let mut node: usize = 0;
-    let mut start: usize = 0;
-    for count in entry.counts.iter() {
-        node = node.saturating_add(1);
-        rt.println(row_line(rt.alloc(), node, entry.values.as_slice(), start, *count)?)?;
-        start = start.saturating_add(k);
-    }
-    Ok(())
-}
-
-// An entry: the call, its answer, the rows of a solve and the arcs of a path.
+// An entry: the call, its answer, the arcs of a path and the rows of a solve.
 pub fn print_entry<M: Columns>(rt: &HostRuntime, entry: &Entry<M>) -> Result<(), Failure> {
     let heap = rt.alloc();
     let call = call_text(heap, &entry.call)?;
     let answer = answer_text(heap, &entry.answer)?;
     let mut line = format!(in heap; "{call}: {answer}")?;
-    if let Answer::Path {
-        count: _,
-        length: _,
-    } = entry.answer
-    {
+    if let Answer::Path { .. } = entry.answer {
         line.push_str(" by arcs")?;
         for arc in entry.path.iter() {
-            let arc = *arc;
-            let word = format!(in heap; " {arc}")?;
-            line.push_str(word.as_str())?;
+            write!(line, " {arc}")?;
         }
     }
     rt.println(line)?;
-    match entry.call {
-        Call::Solve {
-            order,
-            values: _,
-            counts: _,
-        } => print_rows(rt, entry, order.k),
-        _ => Ok(()),
+    if let Call::Solve { order, .. } = entry.call {
+        // each row has K cells, and as many lengths as its count says
+        let rows = entry.values.chunks(order.k).zip(entry.counts.iter());
+        for (node, (cells, count)) in (1..).zip(rows) {
+            rt.println(row_line(heap, node, &cells[..cells.len().min(*count)])?)?;
+        }
     }
+    Ok(())
 }

@@ -1,23 +1,18 @@
+use Rattle.std.proofs.Common.{rules}
 use Rattle.journal.proofs.Entries.{taken_as}
 use Rattle.journal.proofs.Drafted.{put_taken, relength_taken, close_taken, open_taken}
 use Rattle.journal.proofs.performing.on_draft.Goals as goal
+use Rattle.journal.proofs.performing.on_draft.Goals.{in-Put, in-Relength, in-Close, in-Open}
 
-pub returns-in-Put : goal.returns-in-Put
-returns-in-Put g c = λ work path.
-    taken_as _ _ _ _ _ _ _ _ _ c.in-Put.is c.numbered-answer.ensures
-    (put_taken _ c.args.draft c.args.arcs.now c.args.lengths.now c.args.values.now c.args.counts.now work path _ _ _ c.put.result _ _ _ c.put.ensures.done c.put.ensures.meant)
-
-pub returns-in-Relength : goal.returns-in-Relength
-returns-in-Relength g c = λ work path.
-    taken_as _ _ _ _ _ _ _ _ _ c.in-Relength.is c.done-answer.ensures
-    (relength_taken _ c.args.draft c.args.arcs.now c.args.lengths.now c.args.values.now c.args.counts.now work path _ _ c.relength.result _ c.relength.ensures.done c.relength.ensures.meant)
-
-pub returns-in-Close : goal.returns-in-Close
-returns-in-Close g c = λ work path.
-    taken_as _ _ _ _ _ _ _ _ _ c.in-Close.is c.done-answer-in-Close.ensures
-    (close_taken _ c.args.draft c.args.arcs.now c.args.lengths.now c.args.values.now c.args.counts.now work path _ c.close.result _ c.close.ensures)
-
-pub returns-in-Open : goal.returns-in-Open
-returns-in-Open g c = λ work path.
-    taken_as _ _ _ _ _ _ _ _ _ c.in-Open.is c.done-answer-in-Open.ensures
-    (open_taken _ c.args.draft c.args.arcs.now c.args.lengths.now c.args.values.now c.args.counts.now work path _ c.open.result _ c.open.ensures)
+pub returns : goal.returns
+returns g c = λ work path.
+    elim c.match-call.branch [
+      | in-Put w ↦ simp (w.arcs-is, w.lengths-is, w.draft-is, w.answer-is)
+          (taken_as _ _ _ _ _ _ _ _ _ w.in-Put.is (search rules) (put_taken _ _ _ _ _ _ work path _ _ _ w.put.result _ _ _ w.put.ensures.done w.put.ensures.meant))
+      | in-Relength w ↦ simp (w.arcs-is, w.lengths-is, w.draft-is, w.answer-is)
+          (taken_as _ _ _ _ _ _ _ _ _ w.in-Relength.is (search rules) (relength_taken _ _ _ _ _ _ work path _ _ w.relength.result _ w.relength.ensures.done w.relength.ensures.meant))
+      | in-Close w ↦ simp (w.arcs-is, w.lengths-is, w.draft-is, w.answer-is)
+          (taken_as _ _ _ _ _ _ _ _ _ w.in-Close.is (search rules) (close_taken _ _ _ _ _ _ work path _ w.close.result _ w.close.ensures))
+      | in-Open w ↦ simp (w.arcs-is, w.lengths-is, w.draft-is, w.answer-is)
+          (taken_as _ _ _ _ _ _ _ _ _ w.in-Open.is (search rules) (open_taken _ _ _ _ _ _ work path _ w.open.result _ w.open.ensures))
+    ]

@@ -1,19 +1,14 @@
-use Rattle.std.proofs.Common.{refl}
+use Rattle.std.proofs.Common.{rules}
 use Rattle.journal.proofs.Entries.{taken_as}
-use Rattle.journal.proofs.Traced.{path_taken, none_taken, finish_taken}
+use Rattle.journal.proofs.Traced.{path_taken, none_taken}
 use Rattle.journal.proofs.performing.on_trace.Goals as goal
 
 pub returns-in-Some : goal.returns-in-Some
 returns-in-Some g c =
-    taken_as _ _ _ _ _ _ _ _ _ c.in-Next.is refl
-    (path_taken _ g.met.M.Measure.lawful c.args.trace c.args.arcs.now c.args.lengths.now c.args.values.now c.args.counts.now c.args.work.now c.args.path.now _ _ _ c.in-Some.found c.in-Some.ensures.meant)
+    taken_as _ _ _ _ _ _ _ _ _ c.in-Next.is (search rules)
+    (path_taken _ g.met.M.Measure.lawful _ _ _ _ _ _ _ _ _ _ (c.in-Some.count, c.in-Some.length) c.in-Some.ensures.meant)
 
 pub returns-in-None : goal.returns-in-None
 returns-in-None g c =
-    taken_as _ _ _ _ _ _ _ _ _ c.in-Next.is refl
-    (none_taken _ g.met.M.Measure.lawful c.args.trace c.args.arcs.now c.args.lengths.now c.args.values.now c.args.counts.now c.args.work.now c.args.path.now _ _ _ c.in-None.ensures.meant)
-
-pub returns-in-Finish : goal.returns-in-Finish
-returns-in-Finish g c =
-    taken_as _ _ _ _ _ _ _ _ _ c.in-Finish.is refl
-    (finish_taken _ g.met.M.Measure.lawful c.args.trace c.args.arcs.now c.args.lengths.now c.args.values.now c.args.counts.now c.args.work.now c.args.path.now c.finish-settled.result c.finish-settled.ensures)
+    rw c.in-Next.is
+    (none_taken _ g.met.M.Measure.lawful _ _ _ _ _ _ _ _ _ _ c.in-None.ensures.meant)
