@@ -7,7 +7,7 @@ use columns::{Columns, Kind};
 fn byte_at(body: &[u8], at: usize) -> u8
     ensures { result ≡ slice_index body.now at }
 {
-    if at < body.len() { body[at] } else { 0 }
+    body.get(at).copied().unwrap_or(0)
 }
 
 // Two bytes.
