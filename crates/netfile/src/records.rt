@@ -89,9 +89,7 @@ pub fn next_record<'a>(rest: &'a [u8], stage: Stage, kind: Kind) -> Result<Recor
     if !mark.in_order(stage) {
         return Err(Reason::BadMark);
     }
-    let body = after
-        .get(..mark.body_size(kind))
-        .ok_or(Reason::CutShort)?;
+    let body = after.get(..mark.body_size(kind)).ok_or(Reason::CutShort)?;
     Ok(match mark {
         Mark::Network => Record::Network(body),
         Mark::Arc => Record::Arc(body),

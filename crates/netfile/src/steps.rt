@@ -10,8 +10,8 @@ use super::{Kind, Limits, Progress, Reason, Record, Stage};
 use measure::{Reversed, Sum, Then};
 use sweeps::{MOST_NODES, Order, Refusal};
 
-// Refuses an arc by the measure of the file's kind.
-// (the kinds stay a match in two crates: each arm names a type, and a visitor would be a trait and a struct for each place)
+// Refuses an arc by the measure of the file's kind. (Each arm names a type: a visitor would need a trait, and a struct here and
+// in each other crate that asks for the measure of a kind.)
 fn refusal_by_kind(progress: Progress, cells: usize, body: &[u8]) -> Result<(), Refusal>
     ensures { let verdict = arc_judged progress.kind progress cells body.now in MatchResult result (λ _. verdict ≡ None) (λ why. verdict ≡ Some why) }
 {
