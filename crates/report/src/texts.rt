@@ -11,8 +11,7 @@ pub(crate) fn lengths_text<M: Columns>(heap: Global, row: &[M]) -> Result<String
     let mut text = String::new(heap);
     for value in row {
         let shown = column_text(heap, value)?;
-        let part = format!(in heap; " {shown}")?;
-        text.push_str(part.as_str())?;
+        write!(text, " {shown}")?;
     }
     Ok(text)
 }
@@ -23,9 +22,7 @@ pub(crate) fn nodes_text(heap: Global, nodes: &[usize]) -> Result<String, AllocE
 {
     let mut text = String::new(heap);
     for node in nodes {
-        let number = *node;
-        let part = format!(in heap; " {number}")?;
-        text.push_str(part.as_str())?;
+        write!(text, " {node}")?;
     }
     Ok(text)
 }
