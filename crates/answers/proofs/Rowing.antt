@@ -25,7 +25,7 @@ front_more row read read' x front here more =
 pub front_all : {V : Type 0} (row read : List V) → Front row read → slice_get row (length read) ≡ None → read ≡ row
 front_all row read front none =
     elim (slice_get_cases row (length read)).1 [
-      | inl (x, _, is, _) ↦ absurd (let z : ◌≡◌ {A = ℕ} 0 1 = cc in omega arith)
+      | inl (x, _, is, _) ↦ cc
       | inr (past, _) ↦ front ∙ take_all (length read) row past
     ]
 
@@ -67,6 +67,6 @@ pub below : {V : Type 0} (n k node i : ℕ) (r : Result (Option V) Refusal) (x :
 below n k node i r x d e = let h : i + 1 ≤ k = ltb-false k (i + 1) (or_parts (eqb (i + 1) 0) (ltb k (i + 1)) (inner (outside n node) (outside k (i + 1)) d)).1 in omega arith
   where
     inner : (a b : Bool) → Decided (cond a (Some NoSuchNode) (cond b (Some NoSuchPlace) None)) r → b ≡ false
-    inner true b d = let f = ap (λ q. result_unwrap_or q None) d in absurd (let z : ◌≡◌ {A = ℕ} 0 1 = cc in omega arith)
-    inner false true d = let f = ap (λ q. result_unwrap_or q None) d in absurd (let z : ◌≡◌ {A = ℕ} 0 1 = cc in omega arith)
+    inner true b d = let f = ap (λ q. result_unwrap_or q None) d in cc
+    inner false true d = let f = ap (λ q. result_unwrap_or q None) d in cc
     inner false false d = refl

@@ -34,7 +34,7 @@ spelled_letters a b m e =
                       elim (chosen a b 81 84 Target m _ refl e₃) [
                         | inl h ↦ h
                         | inr e₄ ↦
-                            elim (chosen a b 69 78 End m _ refl e₄) [ inl h ↦ h | inr e₅ ↦ absurd (let z : ◌≡◌ {A = ℕ} 0 1 = cc in omega arith) ]
+                            elim (chosen a b 69 78 End m _ refl e₄) [ inl h ↦ h | inr e₅ ↦ cc ]
                       ]
                 ]
           ]
@@ -48,18 +48,18 @@ pub record Headed (stage : Stage) (kind : Kind) (rest : List ℕ) (m : Mark) : T
 
 module _ (stage : Stage) (kind : Kind) (rest : List ℕ) (m : Mark) where
   last : (n : Mark) (x y : Bool) → cond x (cond y (Err CutShort) (Ok n)) (Err BadMark) ≡ Ok m → (x ≡ true) × (y ≡ false) × (n ≡ m)
-  last n true true e = absurd (let z : ◌≡◌ {A = ℕ} 0 1 = cc in omega arith)
+  last n true true e = cc
   last n true false e = (refl, refl, cc)
-  last n false y e = absurd (let z : ◌≡◌ {A = ℕ} 0 1 = cc in omega arith)
+  last n false y e = cc
 
   middle : (o : Option Mark) → in_turn stage kind rest o ≡ Ok m → (o ≡ Some m) × (in_order stage m ≡ true) × (2 + body_size m kind ≤ length rest)
-  middle None e = absurd (let z : ◌≡◌ {A = ℕ} 0 1 = cc in omega arith)
+  middle None e = cc
   middle (Some n) e =
       let h = last n (in_order stage n) (ltb (length rest) (2 + body_size n kind)) e in
       (ap Some h.2, ap (in_order stage) (sym h.2) ∙ h.0, subst (λ k. 2 + body_size k kind ≤ length rest) h.2 (ltb-false _ _ h.1))
 
   first : (t : Bool) → ltb (length rest) 2 ≡ t → cond t (Err CutShort) (in_turn stage kind rest (spelled (get_or rest 0 0) (get_or rest 1 0))) ≡ Ok m → Headed stage kind rest m
-  first true h e = absurd (let z : ◌≡◌ {A = ℕ} 0 1 = cc in omega arith)
+  first true h e = cc
   first false h e = let k = middle _ e in record { two = ltb-false _ _ h; spelt = k.0; ordered = k.1; room = k.2 }
 
   pub headed : found stage kind rest ≡ Ok m → Headed stage kind rest m

@@ -73,9 +73,9 @@ breaks limits file at p why small come s =
     })
 
 pub trailing : (limits : Limits) (s : Stage) (p : Progress) (rest : List ℕ) → s ≡ Over → 0 < length rest → Stops limits s p rest Trailing
-trailing limits Start p rest e h = absurd (let z : ◌≡◌ {A = ℕ} 0 1 = cc in omega arith)
-trailing limits Arcs p rest e h = absurd (let z : ◌≡◌ {A = ℕ} 0 1 = cc in omega arith)
-trailing limits Queries p rest e h = absurd (let z : ◌≡◌ {A = ℕ} 0 1 = cc in omega arith)
+trailing limits Start p rest e h = cc
+trailing limits Arcs p rest e h = cc
+trailing limits Queries p rest e h = cc
 trailing limits Over p rest e h = (refl, h)
 
 -- the whole file is the good records

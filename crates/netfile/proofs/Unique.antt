@@ -106,9 +106,9 @@ one_reason limits p rest a b Queries h k = cc
 one_reason limits p rest a b Over h k = h.0 ∙ sym k.0
 
 not_at_end : (limits : Limits) (p : Progress) (rest : List ℕ) (why : Reason) (s : Stage) → s ≡ Over → rest ≡ [] → Stops limits s p rest why → ⊥
-not_at_end limits p rest why Start o e h = let z : ◌≡◌ {A = ℕ} 0 1 = cc in omega arith
-not_at_end limits p rest why Arcs o e h = let z : ◌≡◌ {A = ℕ} 0 1 = cc in omega arith
-not_at_end limits p rest why Queries o e h = let z : ◌≡◌ {A = ℕ} 0 1 = cc in omega arith
+not_at_end limits p rest why Start o e h = cc
+not_at_end limits p rest why Arcs o e h = cc
+not_at_end limits p rest why Queries o e h = cc
 not_at_end limits p rest why Over o e h = let k : length rest ≡ 0 = ap length e in let l = h.1 in omega arith
 
 module _ (limits : Limits) (file : List ℕ) where
