@@ -23,13 +23,8 @@ module _ (stage : Stage) (kind : Kind) (rest : List ℕ) (m : Mark) where
   pub headed : found stage kind rest ≡ Ok m → Headed stage kind rest m
   headed e = grind (arith, nat_tests)
 
-  two_front : (a b : ℕ) (xs : List ℕ) (n : ℕ) → a ∷ b ∷ take n xs ≡ take (2 + n) (a ∷ b ∷ xs)
-  two_front a b xs n = let e : suc (suc n) ≡ 2 + n = omega arith in ap (λ k. take k (a ∷ b ∷ xs)) e
-
   front : (xs : List ℕ) → 2 ≤ length xs → (n : ℕ) → get_or xs 0 0 ∷ get_or xs 1 0 ∷ take n (drop 2 xs) ≡ take (2 + n) xs
-  front [] h n = absurd (omega arith)
-  front (a ∷ []) h n = absurd (omega arith)
-  front (a ∷ b ∷ xs) h n = two_front a b xs n
+  front xs h n = grind (arith, nat_tests)
 
   -- the bytes of the record
   pub headed_bytes : found stage kind rest ≡ Ok m → letters m ++ body_at m kind rest ≡ take (2 + body_size m kind) rest
@@ -38,32 +33,9 @@ module _ (stage : Stage) (kind : Kind) (rest : List ℕ) (m : Mark) where
       ap (λ l. l ++ body_at m kind rest) (spelled_letters _ _ m h.spelt) ∙ front rest h.two (body_size m kind)
 
 -- a record that may stand here, with a whole body, is found at the head of its bytes
-spelt_by : (m : Mark) (xs : List ℕ) → spelled (get_or (letters m ++ xs) 0 0) (get_or (letters m ++ xs) 1 0) ≡ Some m
-spelt_by Network xs = refl
-spelt_by Arc xs = refl
-spelt_by Query xs = refl
-spelt_by Target xs = refl
-spelt_by End xs = refl
-
-length_letters : (m : Mark) (xs : List ℕ) → length (letters m ++ xs) ≡ 2 + length xs
-length_letters Network xs = omega arith
-length_letters Arc xs = omega arith
-length_letters Query xs = omega arith
-length_letters Target xs = omega arith
-length_letters End xs = omega arith
-
-drop_letters : (m : Mark) (xs : List ℕ) → drop 2 (letters m ++ xs) ≡ xs
-drop_letters Network xs = refl
-drop_letters Arc xs = refl
-drop_letters Query xs = refl
-drop_letters Target xs = refl
-drop_letters End xs = refl
-
 module _ (stage : Stage) (kind : Kind) (m : Mark) (body more : List ℕ) (ordered : in_order stage m ≡ true) (whole : length body ≡ body_size m kind) where
   pub found_again : found stage kind (letters m ++ (body ++ more)) ≡ Ok m
-  found_again =
-      let size : length (letters m ++ (body ++ more)) ≡ 2 + (length body + length more) = length_letters m (body ++ more) ∙ ap (λ n. 2 + n) (length-append body more) in
-      cond-false _ _ _ (le-ltb (length (letters m ++ (body ++ more))) 2 (omega arith)) ∙ ap (in_turn stage kind (letters m ++ (body ++ more))) (spelt_by m (body ++ more)) ∙ cond-true _ _ _ ordered ∙ cond-false _ _ _ (le-ltb (length (letters m ++ (body ++ more))) (2 + body_size m kind) (omega arith))
+  found_again = grind (arith, nat_tests, length-append {A = ℕ})
 
   pub body_again : body_at m kind (letters m ++ (body ++ more)) ≡ body
-  body_again = ap (take (body_size m kind)) (drop_letters m (body ++ more)) ∙ take_at body more (body_size m kind) whole
+  body_again = grind (arith, nat_tests, take_at)
