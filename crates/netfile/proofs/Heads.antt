@@ -1,13 +1,10 @@
 -- The record at the head of some bytes: what is known where one is found, and that a good one is found.
-use Rattle.std.proofs.Common.{◌≡◌, ℕ, suc, ◌+◌, ◌≤◌, Bool, true, false, cond, ◌&&◌, eqb, ltb, ◌⊎◌, List, [], ◌∷◌, ◌++◌, length, get_or, take, drop, Some, None, Ok, Err, Option, sym, refl, ap, ◌∙◌, subst, inl, inr, arith, length-append, take_at}
+use Rattle.std.proofs.Common.{◌≡◌, ℕ, ◌+◌, ◌≤◌, true, List, [], ◌∷◌, ◌++◌, length, get_or, take, drop, Some, Ok, ap, ◌∙◌, arith, length-append, take_at}
 use Rattle.std.proofs.lemmas.Bool.Decides.{nat_tests}
-use Rattle.std.proofs.lemmas.Bool.{and_parts, eqb-true, ltb-false, le-ltb, cond-true, cond-false}
 use Rattle.columns.specs.declared.kind.Kind.{Kind}
 use Rattle.netfile.specs.declared.progress.Stage.{Stage}
-use Rattle.netfile.specs.declared.reason.Reason.TheVariants.{CutShort, BadMark}
 use Rattle.netfile.specs.declared.records.Mark.{Mark}
-use Rattle.netfile.specs.declared.records.Mark.TheVariants.{Network, Arc, Query, Target, End}
-use Rattle.netfile.specs.Records.{letters, spelled, body_size, in_order, in_turn, found, body_at}
+use Rattle.netfile.specs.Records.{letters, spelled, body_size, in_order, found, body_at}
 
 -- the letters that spell a mark are its letters
 pub spelled_letters : (a b : ℕ) (m : Mark) → spelled a b ≡ Some m → letters m ≡ a ∷ b ∷ []

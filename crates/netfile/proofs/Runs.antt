@@ -1,11 +1,12 @@
 -- Records read one after another.
 use Rattle.std.proofs.Common.{◌≡◌, ℕ, ◌+◌, ◌-◌, ◌<◌, ◌≤◌, List, [], ◌∷◌, ◌++◌, length, take, drop, Ok, Err, sym, refl, ap, ◌∙◌, subst, append_assoc, append-nil, arith, length-drop, take_all, take-add}
+use Rattle.std.proofs.lemmas.Bool.Decides.{nat_tests}
 use Rattle.std.proofs.lemmas.List.{length-take-le}
 use Rattle.std.proofs.lemmas.Bool.{le-ltb}
 use Rattle.netfile.specs.declared.progress.Progress.{Progress}
 use Rattle.netfile.specs.declared.progress.Limits.{Limits}
 use Rattle.netfile.specs.declared.progress.Stage.{Stage}
-use Rattle.netfile.specs.declared.progress.Stage.TheVariants.{Start, Arcs, Queries, Over}
+use Rattle.netfile.specs.declared.progress.Stage.TheVariants.{Over}
 use Rattle.netfile.specs.declared.reader.Reader.{Reader}
 use Rattle.netfile.specs.declared.reason.Reason.{Reason}
 use Rattle.netfile.specs.declared.reason.Fault.{Fault}
@@ -54,10 +55,7 @@ module _ (limits : Limits) (file : List ℕ) (at : ℕ) (p : Progress) (come : C
       }
 
 pub stops : (limits : Limits) (s : Stage) (p : Progress) (rest : List ℕ) (why : Reason) → (s ≡ Over → ⊥) → judged_next limits p rest ≡ Err why → Stops limits s p rest why
-stops limits Start p rest why n e = e
-stops limits Arcs p rest why n e = e
-stops limits Queries p rest why n e = e
-stops limits Over p rest why n e = absurd (n refl)
+stops limits s p rest why n e = grind (arith, nat_tests)
 
 -- the fault at a byte that the good records led to
 pub breaks : (limits : Limits) (file : List ℕ) (at : ℕ) (p : Progress) (why : Reason) → length file ≤ limits.bytes → Come limits file at p → Stops limits p.stage p (drop at file) why → Refuses limits file (record { reason = why; at = at })
@@ -73,10 +71,7 @@ breaks limits file at p why small come s =
     })
 
 pub trailing : (limits : Limits) (s : Stage) (p : Progress) (rest : List ℕ) → s ≡ Over → 0 < length rest → Stops limits s p rest Trailing
-trailing limits Start p rest e h = cc
-trailing limits Arcs p rest e h = cc
-trailing limits Queries p rest e h = cc
-trailing limits Over p rest e h = (refl, h)
+trailing limits s p rest e h = grind (arith, nat_tests)
 
 -- the whole file is the good records
 pub accepts : (limits : Limits) (file : List ℕ) (at : ℕ) (p : Progress) → length file ≤ limits.bytes → Come limits file at p → length file ≤ at → p.stage ≡ Over → (es : List Entry) × Accepts limits file es p
