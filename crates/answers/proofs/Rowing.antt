@@ -1,6 +1,7 @@
 -- A row read place by place.
 use Rattle.std.proofs.Common.{◌≡◌, ℕ, zero, suc, ◌+◌, ◌-◌, ◌<◌, ◌≤◌, Bool, true, false, cond, ◌||◌, eqb, ltb, ◌⊎◌, List, [], ◌∷◌, ◌++◌, length, take, Some, None, Option, Result, inl, inr, sym, refl, ap, ◌∙◌, arith, take_all, length-append}
 use Rattle.std.proofs.lemmas.Bool.{or_from, or_parts, ne_eqb, le-ltb, lt-ltb, ltb-false, cases_lt, cond-false, cond-true}
+use Rattle.std.proofs.lemmas.Bool.Decides.{nat_tests}
 use Rattle.std.proofs.lemmas.Option.{slice_get_cases, slice_get_past, slice_get_within, get_or_from_slice_get}
 use Rattle.std.proofs.lemmas.List.{take_more, length-take}
 use Rattle.std.specs.List.{slice_get}
@@ -23,11 +24,7 @@ front_more row read read' x front here more =
     more ∙ ap (λ l. l ++ x ∷ []) front ∙ ap (λ y. take (length read) row ++ y ∷ []) (sym item) ∙ sym (take_more row (length read) x (slice_get_within row (length read) x here)) ∙ ap (λ i. take i row) (sym size)
 
 pub front_all : {V : Type 0} (row read : List V) → Front row read → slice_get row (length read) ≡ None → read ≡ row
-front_all row read front none =
-    elim (slice_get_cases row (length read)).1 [
-      | inl (x, _, is, _) ↦ cc
-      | inr (past, _) ↦ front ∙ take_all (length read) row past
-    ]
+front_all {V} row read front none = grind (arith, slice_get_cases row (length read), take_all {A = V})
 
 slice_get-take : {V : Type 0} (xs : List V) (n i : ℕ) → i < n → slice_get (take n xs) i ≡ slice_get xs i
 slice_get-take xs zero i h = absurd (omega arith)
@@ -35,28 +32,9 @@ slice_get-take [] (suc n) i h = refl
 slice_get-take (x ∷ xs) (suc n) zero h = refl
 slice_get-take (x ∷ xs) (suc n) (suc i) h = slice_get-take xs n i (omega arith)
 
-or_late : (a b : Bool) → b ≡ true → (a || b) ≡ true
-or_late true b h = refl
-or_late false b h = h
-
-inside : (n j : ℕ) → 1 ≤ j → j ≤ n → outside n j ≡ false
-inside n j l h = or_from _ _ (ne_eqb j 0 (λ e. omega arith)) (le-ltb n j h)
-
 -- the length at a place, none where the call is refused
 told : {V : Type 0} (m : Algebra V) (n k : ℕ) (t : Table V) (node i : ℕ) → 1 ≤ node → node ≤ n → result_unwrap_or (length_answer m n k t node (i + 1)) None ≡ slice_get (take k (t node)) i
-told m n k t node i low high = by_place (cases_lt i k)
-  where
-    node_in : outside n node ≡ false
-    node_in = inside n node low high
-
-    by_place : (i < k) ⊎ (k ≤ i) → result_unwrap_or (length_answer m n k t node (i + 1)) None ≡ slice_get (take k (t node)) i
-    by_place (inl h) =
-        let e : i + 1 - 1 ≡ i = omega arith in
-        let verdict : length_verdict n k node (i + 1) ≡ None = cond-false _ _ _ node_in ∙ cond-false _ _ _ (inside k (i + 1) (omega arith) (omega arith)) in
-        ap (λ v. result_unwrap_or (judged v (slice_get (t node) (i + 1 - 1))) None) verdict ∙ ap (slice_get (t node)) e ∙ sym (slice_get-take (t node) k i h)
-    by_place (inr h) =
-        let verdict : length_verdict n k node (i + 1) ≡ Some NoSuchPlace = cond-false _ _ _ node_in ∙ cond-true _ _ _ (or_late (eqb (i + 1) 0) (ltb k (i + 1)) (lt-ltb k (i + 1) (omega arith))) in
-        ap (λ v. result_unwrap_or (judged v (slice_get (t node) (i + 1 - 1))) None) verdict ∙ sym (slice_get_past (take k (t node)) i (omega (arith, length-take k (t node))))
+told {V} m n k t node i low high = grind (arith, nat_tests, slice_get-take {V = V}, slice_get_past {X = V}, length-take {A = V})
 
 pub told_at : {V : Type 0} (m : Algebra V) (n k : ℕ) (t : Table V) (node i j : ℕ) (r : Result (Option V) Refusal) (o : Option V) → 1 ≤ node → node ≤ n → i ≡ j → r ≡ length_answer m n k t node (i + 1) → o ≡ result_unwrap_or r None → slice_get (take k (t node)) j ≡ o
 told_at m n k t node i j r o low high same e f =
@@ -64,9 +42,4 @@ told_at m n k t node i j r o low high same e f =
 
 -- a length is told at the row's k places only
 pub below : {V : Type 0} (n k node i : ℕ) (r : Result (Option V) Refusal) (x : V) → Decided (length_verdict n k node (i + 1)) r → result_unwrap_or r None ≡ Some x → i < k
-below n k node i r x d e = let h : i + 1 ≤ k = ltb-false k (i + 1) (or_parts (eqb (i + 1) 0) (ltb k (i + 1)) (inner (outside n node) (outside k (i + 1)) d)).1 in omega arith
-  where
-    inner : (a b : Bool) → Decided (cond a (Some NoSuchNode) (cond b (Some NoSuchPlace) None)) r → b ≡ false
-    inner true b d = let f = ap (λ q. result_unwrap_or q None) d in cc
-    inner false true d = let f = ap (λ q. result_unwrap_or q None) d in cc
-    inner false false d = refl
+below n k node i r x d e = grind (arith, nat_tests)
