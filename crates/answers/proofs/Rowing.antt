@@ -18,10 +18,7 @@ abbrev pub Front : {V : Type 0} → List V → List V → Type 0
 Front row read = read ≡ take (length read) row
 
 pub front_more : {V : Type 0} (row read read' : List V) (x : V) → Front row read → slice_get row (length read) ≡ Some x → read' ≡ read ++ x ∷ [] → Front row read'
-front_more row read read' x front here more =
-    let size : length read' ≡ length read + 1 = ap length more ∙ length-append read (x ∷ []) in
-    let item = get_or_from_slice_get row (length read) x x here in
-    more ∙ ap (λ l. l ++ x ∷ []) front ∙ ap (λ y. take (length read) row ++ y ∷ []) (sym item) ∙ sym (take_more row (length read) x (slice_get_within row (length read) x here)) ∙ ap (λ i. take i row) (sym size)
+front_more {V} row read read' x front here more = grind (arith, take_more row (length read) x, get_or_from_slice_get row (length read) x x, slice_get_within row (length read) x, length-append {A = V})
 
 pub front_all : {V : Type 0} (row read : List V) → Front row read → slice_get row (length read) ≡ None → read ≡ row
 front_all {V} row read front none = grind (arith, slice_get_cases row (length read), take_all {A = V})

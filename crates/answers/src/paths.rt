@@ -8,10 +8,10 @@ use std::alloc::{AllocError, Global};
 fn arc_end(arcs: &[Arc], number: usize) -> usize
     ensures { result ≡ end_of arcs.now number }
 {
-    if number == 0 || number > arcs.len() {
-        return 0;
-    }
-    arcs[number - 1].end as usize
+    number
+        .checked_sub(1)
+        .and_then(|at| arcs.get(at))
+        .map_or(0, |arc| arc.end as usize)
 }
 
 // The nodes of a path from the source, by the numbers of its arcs.
