@@ -1,6 +1,5 @@
 -- A row read place by place.
-use Rattle.std.proofs.Common.{◌≡◌, ℕ, zero, suc, ◌+◌, ◌-◌, ◌<◌, ◌≤◌, Bool, true, false, cond, ◌||◌, eqb, ltb, ◌⊎◌, List, [], ◌∷◌, ◌++◌, length, take, Some, None, Option, Result, inl, inr, sym, refl, ap, ◌∙◌, arith, take_all, length-append}
-use Rattle.std.proofs.lemmas.Bool.{or_from, or_parts, ne_eqb, le-ltb, lt-ltb, ltb-false, cases_lt, cond-false, cond-true}
+use Rattle.std.proofs.Common.{◌≡◌, ℕ, zero, suc, ◌+◌, ◌<◌, ◌≤◌, List, [], ◌∷◌, ◌++◌, length, take, Some, None, Option, Result, sym, refl, ap, ◌∙◌, arith, take_all, length-append}
 use Rattle.std.proofs.lemmas.Bool.Decides.{nat_tests}
 use Rattle.std.proofs.lemmas.Option.{slice_get_cases, slice_get_past, slice_get_within, get_or_from_slice_get}
 use Rattle.std.proofs.lemmas.List.{take_more, length-take}
@@ -9,8 +8,6 @@ use Rattle.std.specs.Result.{result_unwrap_or}
 use Rattle.measure.specs.Algebra.{Algebra}
 use Rattle.walks.specs.Rows.{Table}
 use Rattle.sweeps.specs.declared.refusal.Refusal.{Refusal}
-use Rattle.sweeps.specs.declared.refusal.Refusal.TheVariants.{NoSuchNode, NoSuchPlace}
-use Rattle.session.specs.Drafts.{outside, judged}
 use Rattle.session.specs.Settled.{Decided, length_verdict, length_answer}
 
 -- the front of a row is read

@@ -3,6 +3,7 @@ ghost use Rattle.answers.specs.Paths.{end_of, ends_of};
 
 use session::Arc;
 use std::alloc::{AllocError, Global};
+use std::iter;
 
 // The node that an arc leads to, by the arc's number; 0 where there is none.
 fn arc_end(arcs: &[Arc], number: usize) -> usize
@@ -23,10 +24,7 @@ pub(crate) fn path_nodes(
 ) -> Result<Vec<usize>, AllocError>
     ensures { IfOk result (λ v. v.items ≡ source ∷ ends_of arcs.now path.now) }
 {
-    let mut nodes = Vec::new(heap);
-    nodes.push(source)?;
-    for number in path {
-        nodes.push(arc_end(arcs, *number))?;
-    }
-    Ok(nodes)
+    iter::once(source)
+        .chain(path.iter().map(|number| arc_end(arcs, *number)))
+        .collect(heap)
 }
