@@ -1,5 +1,5 @@
 -- A row read place by place.
-use Rattle.std.proofs.Common.{◌≡◌, ℕ, zero, suc, ◌+◌, ◌<◌, ◌≤◌, List, [], ◌∷◌, ◌++◌, length, take, Some, None, Option, Result, sym, refl, ap, ◌∙◌, arith, take_all, length-append}
+use Rattle.std.proofs.Common.{◌≡◌, ℕ, zero, suc, ◌+◌, ◌<◌, ◌≤◌, List, [], ◌∷◌, ◌++◌, length, take, Some, None, Option, Result, refl, arith, take_all, length-append}
 use Rattle.std.proofs.lemmas.Bool.Decides.{nat_tests}
 use Rattle.std.proofs.lemmas.Option.{slice_get_cases, slice_get_past, slice_get_within, get_or_from_slice_get}
 use Rattle.std.proofs.lemmas.List.{take_more, length-take}
@@ -27,12 +27,8 @@ slice_get-take (x ∷ xs) (suc n) zero h = refl
 slice_get-take (x ∷ xs) (suc n) (suc i) h = slice_get-take xs n i (omega arith)
 
 -- the length at a place, none where the call is refused
-told : {V : Type 0} (m : Algebra V) (n k : ℕ) (t : Table V) (node i : ℕ) → 1 ≤ node → node ≤ n → result_unwrap_or (length_answer m n k t node (i + 1)) None ≡ slice_get (take k (t node)) i
-told {V} m n k t node i low high = grind (arith, nat_tests, slice_get-take {V = V}, slice_get_past {X = V}, length-take {A = V})
-
-pub told_at : {V : Type 0} (m : Algebra V) (n k : ℕ) (t : Table V) (node i j : ℕ) (r : Result (Option V) Refusal) (o : Option V) → 1 ≤ node → node ≤ n → i ≡ j → r ≡ length_answer m n k t node (i + 1) → o ≡ result_unwrap_or r None → slice_get (take k (t node)) j ≡ o
-told_at m n k t node i j r o low high same e f =
-    ap (slice_get (take k (t node))) (sym same) ∙ sym (told m n k t node i low high) ∙ ap (λ q. result_unwrap_or q None) (sym e) ∙ sym f
+pub told : {V : Type 0} (m : Algebra V) (n k : ℕ) (t : Table V) (node i j : ℕ) (r : Result (Option V) Refusal) (o : Option V) → 1 ≤ node → node ≤ n → i ≡ j → r ≡ length_answer m n k t node (i + 1) → o ≡ result_unwrap_or r None → slice_get (take k (t node)) j ≡ o
+told {V} m n k t node i j r o low high same e f = grind (arith, nat_tests, slice_get-take {V = V}, slice_get_past {X = V}, length-take {A = V})
 
 -- a length is told at the row's k places only
 pub below : {V : Type 0} (n k node i : ℕ) (r : Result (Option V) Refusal) (x : V) → Decided (length_verdict n k node (i + 1)) r → result_unwrap_or r None ≡ Some x → i < k
