@@ -5,14 +5,10 @@ use answers::{LIMITS, answer_file};
 use failure::Failure;
 use std::io::Read;
 
-fn run(rt: &HostRuntime) -> Result<(), Failure> {
+fn main(rt: HostRuntime) -> Result<(), Failure> {
     let mut bytes = Vec::new(rt.alloc());
     rt.stdin()
         .take(LIMITS.bytes as u64 + 1)
         .read_to_end(&mut bytes)?;
-    answer_file(rt, bytes.as_slice())
-}
-
-fn main(rt: HostRuntime) -> Result<(), Failure> {
-    run(&rt)
+    answer_file(&rt, bytes.as_slice())
 }

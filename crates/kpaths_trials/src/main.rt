@@ -48,14 +48,10 @@ const CASES: [(&str, &[u8]); 11] = [
     ),
 ];
 
-fn run(rt: &HostRuntime) -> Result<(), Failure> {
+fn main(rt: HostRuntime) -> Result<(), Failure> {
     for (name, file) in CASES {
         println!(rt; "-- {name}")?;
-        answer_file(rt, file)?;
+        answer_file(&rt, file)?;
     }
     Ok(())
-}
-
-fn main(rt: HostRuntime) -> Result<(), Failure> {
-    run(&rt)
 }

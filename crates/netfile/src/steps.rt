@@ -41,8 +41,7 @@ fn advance(progress: Progress, limits: Limits, item: Record) -> Result<Progress,
                 stage: Stage::Arcs,
                 nodes,
                 kind,
-                count: 0,
-                last: 0,
+                ..Progress::start()
             })
         }
         Record::Arc(body) => {
