@@ -1,42 +1,35 @@
 -- A row read place by place.
-use Rattle.std.proofs.Common.{◌≡◌, ℕ, zero, suc, ◌+◌, ◌-◌, ◌<◌, ◌≤◌, false, List, [], ◌∷◌, ◌++◌, take, Some, None, Ok, Err, Option, Result, sym, ap, ◌∙◌, arith}
-use lib.Seq.{take-nil}
-use Rattle.std.proofs.lemmas.Bool.{or_from, ne_eqb, le-ltb, cond-false}
+use Rattle.std.proofs.Common.{◌≡◌, ℕ, zero, suc, ◌+◌, ◌<◌, ◌≤◌, List, [], ◌∷◌, ◌++◌, length, take, Some, None, Option, Result, refl, arith, take_all, length-append}
+use Rattle.std.proofs.lemmas.Bool.Decides.{nat_tests}
+use Rattle.std.proofs.lemmas.Option.{slice_get_cases, slice_get_past, slice_get_within, get_or_from_slice_get}
+use Rattle.std.proofs.lemmas.List.{take_more, length-take}
 use Rattle.std.specs.List.{slice_get}
+use Rattle.std.specs.Result.{result_unwrap_or}
 use Rattle.measure.specs.Algebra.{Algebra}
 use Rattle.walks.specs.Rows.{Table}
 use Rattle.sweeps.specs.declared.refusal.Refusal.{Refusal}
-use Rattle.session.specs.Drafts.{outside, judged}
-use Rattle.session.specs.Settled.{length_verdict, length_answer}
+use Rattle.session.specs.Settled.{Decided, length_verdict, length_answer}
 
-inside : (n j : ℕ) → 1 ≤ j → j ≤ n → outside n j ≡ false
-inside n j l h = or_from _ _ (ne_eqb j 0 (λ e. omega arith)) (le-ltb n j h)
+-- the front of a row is read
+abbrev pub Front : {V : Type 0} → List V → List V → Type 0
+Front row read = read ≡ take (length read) row
 
-module _ {V : Type 0} (m : Algebra V) (n k : ℕ) (t : Table V) (node place : ℕ) (low : 1 ≤ node) (high : node ≤ n) (within : place < k) where
-  pub answered : length_answer m n k t node (place + 1) ≡ Ok (slice_get (t node) place)
-  answered =
-      let i : place + 1 - 1 ≡ place = omega arith in
-      let verdict : length_verdict n k node (place + 1) ≡ None = cond-false _ _ _ (inside n node low high) ∙ cond-false _ _ _ (inside k (place + 1) (omega arith) (omega arith)) in
-      ap (λ v. judged v (slice_get (t node) (place + 1 - 1))) verdict ∙ ap (λ p. Ok (slice_get (t node) p)) i
+pub front_more : {V : Type 0} (row read read' : List V) (x : V) → Front row read → slice_get row (length read) ≡ Some x → read' ≡ read ++ x ∷ [] → Front row read'
+front_more {V} row read read' x front here more = grind (arith, take_more row (length read) x, get_or_from_slice_get row (length read) x x, slice_get_within row (length read) x, length-append {A = V})
 
-module _ {V : Type 0} where
-  -- one place more, if a length stands there
-  pub take_some : (xs : List V) (i : ℕ) (x : V) → slice_get xs i ≡ Some x → take (i + 1) xs ≡ take i xs ++ x ∷ []
-  take_some [] i x e = absurd (let z : ◌≡◌ {A = ℕ} 0 1 = cc in omega arith)
-  take_some (y ∷ xs) zero x e = cc
-  take_some (y ∷ xs) (suc i) x e =
-      let k : suc i + 1 ≡ suc (i + 1) = omega arith in
-      ap (λ n. take n (y ∷ xs)) k ∙ ap (λ l. y ∷ l) (take_some xs i x e)
+pub front_all : {V : Type 0} (row read : List V) → Front row read → slice_get row (length read) ≡ None → read ≡ row
+front_all {V} row read front none = grind (arith, slice_get_cases row (length read), take_all {A = V})
 
-  pub take_none : (xs : List V) (i : ℕ) → slice_get xs i ≡ None → take (i + 1) xs ≡ take i xs
-  take_none [] i e = take-nil (i + 1) ∙ sym (take-nil i)
-  take_none (y ∷ xs) zero e = absurd (let z : ◌≡◌ {A = ℕ} 0 1 = cc in omega arith)
-  take_none (y ∷ xs) (suc i) e =
-      let k : suc i + 1 ≡ suc (i + 1) = omega arith in
-      ap (λ n. take n (y ∷ xs)) k ∙ ap (λ l. y ∷ l) (take_none xs i e)
+slice_get-take : {V : Type 0} (xs : List V) (n i : ℕ) → i < n → slice_get (take n xs) i ≡ slice_get xs i
+slice_get-take xs zero i h = absurd (omega arith)
+slice_get-take [] (suc n) i h = refl
+slice_get-take (x ∷ xs) (suc n) zero h = refl
+slice_get-take (x ∷ xs) (suc n) (suc i) h = slice_get-take xs n i (omega arith)
 
-  pub ok_is : (a b : Option V) → ◌≡◌ {A = Result (Option V) Refusal} (Ok a) (Ok b) → b ≡ a
-  ok_is a b e = cc
+-- the length at a place, none where the call is refused
+pub told : {V : Type 0} (m : Algebra V) (n k : ℕ) (t : Table V) (node i j : ℕ) (r : Result (Option V) Refusal) (o : Option V) → 1 ≤ node → node ≤ n → i ≡ j → r ≡ length_answer m n k t node (i + 1) → o ≡ result_unwrap_or r None → slice_get (take k (t node)) j ≡ o
+told {V} m n k t node i j r o low high same e f = grind (arith, nat_tests, slice_get-take {V = V}, slice_get_past {X = V}, length-take {A = V})
 
-  pub err_is_not : (a : Refusal) (b : Option V) → ◌≡◌ {A = Result (Option V) Refusal} (Err a) (Ok b) → ⊥
-  err_is_not a b e = let z : ◌≡◌ {A = ℕ} 0 1 = cc in omega arith
+-- a length is told at the row's k places only
+pub below : {V : Type 0} (n k node i : ℕ) (r : Result (Option V) Refusal) (x : V) → Decided (length_verdict n k node (i + 1)) r → result_unwrap_or r None ≡ Some x → i < k
+below n k node i r x d e = grind (arith, nat_tests)

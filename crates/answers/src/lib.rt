@@ -20,7 +20,8 @@ pub const LIMITS: Limits = Limits {
     arcs: 1000,
 };
 
-// Checks a file whole, and then prints the answers to its queries; or prints why it is refused.
+// Checks a file whole, and then prints the answers to its queries; or prints why it is refused. (Each kind's arm names a type: a
+// visitor over the kinds would be a trait and a struct besides.)
 pub fn answer_file(rt: &HostRuntime, file: &[u8]) -> Result<(), Failure> {
     match check(file, LIMITS) {
         Ok(end) => match end.kind {

@@ -3,15 +3,16 @@ ghost use Rattle.answers.specs.Paths.{end_of, ends_of};
 
 use session::Arc;
 use std::alloc::{AllocError, Global};
+use std::iter;
 
 // The node that an arc leads to, by the arc's number; 0 where there is none.
 fn arc_end(arcs: &[Arc], number: usize) -> usize
     ensures { result ≡ end_of arcs.now number }
 {
-    if number == 0 || number > arcs.len() {
-        return 0;
-    }
-    arcs[number - 1].end as usize
+    number
+        .checked_sub(1)
+        .and_then(|at| arcs.get(at))
+        .map_or(0, |arc| arc.end as usize)
 }
 
 // The nodes of a path from the source, by the numbers of its arcs.
@@ -23,10 +24,7 @@ pub(crate) fn path_nodes(
 ) -> Result<Vec<usize>, AllocError>
     ensures { IfOk result (λ v. v.items ≡ source ∷ ends_of arcs.now path.now) }
 {
-    let mut nodes = Vec::new(heap);
-    nodes.push(source)?;
-    for number in path {
-        nodes.push(arc_end(arcs, *number))?;
-    }
-    Ok(nodes)
+    iter::once(source)
+        .chain(path.iter().map(|number| arc_end(arcs, *number)))
+        .collect(heap)
 }

@@ -1,9 +1,8 @@
 use session::{Draft, Settled};
 
-// A session between two records: taking arcs, settled by a query, or a draft again after a refused solve.
+// A session between two records: a draft, or settled by a query from this source.
 #[derive(Drop)]
 pub(crate) enum Session {
-    Drafting(Draft),
-    Solved(Settled),
-    Refused(Draft),
+    Draft(Draft),
+    Solved(Settled, usize),
 }

@@ -1,4 +1,3 @@
-pub mod Room
 pub mod Heads
 pub mod Runs
 pub mod Unique

@@ -1,18 +1,22 @@
 -- Records read one after another.
 use Rattle.std.proofs.Common.{◌≡◌, ℕ, ◌+◌, ◌-◌, ◌<◌, ◌≤◌, List, [], ◌∷◌, ◌++◌, length, take, drop, Ok, Err, sym, refl, ap, ◌∙◌, subst, append_assoc, append-nil, arith, length-drop, take_all, take-add}
+use Rattle.std.proofs.lemmas.Bool.Decides.{nat_tests}
 use Rattle.std.proofs.lemmas.List.{length-take-le}
 use Rattle.std.proofs.lemmas.Bool.{le-ltb}
 use Rattle.netfile.specs.declared.progress.Progress.{Progress}
 use Rattle.netfile.specs.declared.progress.Limits.{Limits}
 use Rattle.netfile.specs.declared.progress.Stage.{Stage}
-use Rattle.netfile.specs.declared.progress.Stage.TheVariants.{Start, Arcs, Queries, Over}
+use Rattle.netfile.specs.declared.progress.Stage.TheVariants.{Over}
+use Rattle.netfile.specs.declared.reader.Reader.{Reader}
 use Rattle.netfile.specs.declared.reason.Reason.{Reason}
+use Rattle.netfile.specs.declared.reason.Fault.{Fault}
 use Rattle.netfile.specs.declared.reason.Reason.TheVariants.{Trailing}
 use Rattle.netfile.specs.declared.records.Mark.{Mark}
 use Rattle.netfile.specs.declared.records.Record.{Record}
 use Rattle.netfile.specs.Records.{found, body_at, body_size, mark_of}
-use Rattle.netfile.specs.Judging.{start_of_file, advanced, judged_next, Taken}
+use Rattle.netfile.specs.Judging.{start_of_file, advanced, judged_next}
 use Rattle.netfile.specs.Readings.{Entry, entry_bytes, written, Good, Run, Accepts, Stops, RefusedBy, Refuses}
+use Rattle.netfile.specs.Reading.{Passed, Ended, Refused}
 use Rattle.netfile.proofs.Heads.{Headed, headed, headed_bytes}
 
 pub written_more : (es : List Entry) (e : Entry) → written (es ++ e ∷ []) ≡ written es ++ entry_bytes e
@@ -50,20 +54,8 @@ module _ (limits : Limits) (file : List ℕ) (at : ℕ) (p : Progress) (come : C
         run = run_more limits start_of_file come.before p e q come.run (record { ordered = h.ordered; whole = size; fields = next });
       }
 
--- the same by what a step answers
-pub taken_more : (limits : Limits) (file : List ℕ) (at : ℕ) (p : Progress) → Come limits file at p → (rest : List ℕ) → rest ≡ drop at file → (item : Record) (q : Progress) → Taken limits p rest item q → (n : ℕ) → n ≡ body_size (mark_of item) p.kind → Come limits file (at + (2 + n)) q
-taken_more limits file at p come rest same item q taken n size =
-    let P : List ℕ → Type 0 = λ r. found p.stage p.kind r ≡ Ok (mark_of item) in
-    let Q : List ℕ → Type 0 = λ r. advanced limits p (mark_of item) (body_at (mark_of item) p.kind r) ≡ Ok q in
-    let is : P (drop at file) = subst P same taken.is.mark in
-    let next : Q (drop at file) = subst Q same (ap (advanced limits p (mark_of item)) (sym taken.is.body) ∙ taken.next) in
-    subst (λ k. Come limits file (at + (2 + k)) q) (sym size) (come_more limits file at p come (mark_of item) q is next)
-
 pub stops : (limits : Limits) (s : Stage) (p : Progress) (rest : List ℕ) (why : Reason) → (s ≡ Over → ⊥) → judged_next limits p rest ≡ Err why → Stops limits s p rest why
-stops limits Start p rest why n e = e
-stops limits Arcs p rest why n e = e
-stops limits Queries p rest why n e = e
-stops limits Over p rest why n e = absurd (n refl)
+stops limits s p rest why n e = grind (arith, nat_tests)
 
 -- the fault at a byte that the good records led to
 pub breaks : (limits : Limits) (file : List ℕ) (at : ℕ) (p : Progress) (why : Reason) → length file ≤ limits.bytes → Come limits file at p → Stops limits p.stage p (drop at file) why → Refuses limits file (record { reason = why; at = at })
@@ -79,12 +71,28 @@ breaks limits file at p why small come s =
     })
 
 pub trailing : (limits : Limits) (s : Stage) (p : Progress) (rest : List ℕ) → s ≡ Over → 0 < length rest → Stops limits s p rest Trailing
-trailing limits Start p rest e h = absurd (let z : ◌≡◌ {A = ℕ} 0 1 = cc in omega arith)
-trailing limits Arcs p rest e h = absurd (let z : ◌≡◌ {A = ℕ} 0 1 = cc in omega arith)
-trailing limits Queries p rest e h = absurd (let z : ◌≡◌ {A = ℕ} 0 1 = cc in omega arith)
-trailing limits Over p rest e h = (refl, h)
+trailing limits s p rest e h = grind (arith, nat_tests)
 
 -- the whole file is the good records
 pub accepts : (limits : Limits) (file : List ℕ) (at : ℕ) (p : Progress) → length file ≤ limits.bytes → Come limits file at p → length file ≤ at → p.stage ≡ Over → (es : List Entry) × Accepts limits file es p
 accepts limits file at p small come all over =
     (come.before, record { small = small; bytes = come.bytes ∙ take_all at file all; run = come.run; over = over })
+
+-- the records before a reader
+abbrev pub Reached : Reader → Type 0
+Reached r = Come r.limits r.file.now r.at r.progress
+
+pub passed : (r r' : Reader) (item : Record) → Reached r → Passed r item r' → Reached r'
+passed r r' item come h =
+    let m = mark_of item in
+    let next : advanced r.limits r.progress m (body_at m r.progress.kind (drop r.at r.file.now)) ≡ Ok r'.progress = ap (advanced r.limits r.progress m) (sym h.taken.is.body) ∙ h.taken.next in
+    let more : Come r.limits r.file.now (r.at + (2 + body_size m r.progress.kind)) r'.progress = come_more r.limits r.file.now r.at r.progress come m r'.progress h.taken.is.mark next in
+    rw (h.at, h.same.file, h.same.limits) more
+
+pub refused : (r : Reader) (f : Fault) → length r.file.now ≤ r.limits.bytes → Reached r → Refused r f → Refuses r.limits r.file.now f
+refused r f small come h =
+    subst (λ at. Refuses r.limits r.file.now (record { reason = f.reason; at = at })) (sym h.at) (breaks r.limits r.file.now r.at r.progress f.reason small come h.stops)
+
+pub ended : (r r' : Reader) → length r.file.now ≤ r.limits.bytes → Reached r → Ended r r' → (es : List Entry) × Accepts r.limits r.file.now es r'.progress
+ended r r' small come h =
+    subst (λ p. (es : List Entry) × Accepts r.limits r.file.now es p) (sym h.progress) (accepts r.limits r.file.now r.at r.progress small come (omega (arith, h.at)) h.over)

@@ -38,9 +38,9 @@ module _ (limits : Limits) (file : List ℕ) (small : length file ≤ limits.byt
     by_end over (inr all) = let a = accepts limits file at p small come all over in (accepted a.0, (p, a.1))
 
     by_stage : (s : Stage) → p.stage ≡ s → Out limits file
-    by_stage Start e = by_found (λ o. let z : ◌≡◌ {A = ℕ} 0 1 = cc in omega arith) (found p.stage p.kind (drop at file)) refl
-    by_stage Arcs e = by_found (λ o. let z : ◌≡◌ {A = ℕ} 0 1 = cc in omega arith) (found p.stage p.kind (drop at file)) refl
-    by_stage Queries e = by_found (λ o. let z : ◌≡◌ {A = ℕ} 0 1 = cc in omega arith) (found p.stage p.kind (drop at file)) refl
+    by_stage Start e = by_found (λ o. cc) (found p.stage p.kind (drop at file)) refl
+    by_stage Arcs e = by_found (λ o. cc) (found p.stage p.kind (drop at file)) refl
+    by_stage Queries e = by_found (λ o. cc) (found p.stage p.kind (drop at file)) refl
     by_stage Over e = by_end e (cases_lt at (length file))
 
   read_from : (fuel at : ℕ) (p : Progress) → Come limits file at p → length file - at < fuel → Out limits file

@@ -1,7 +1,8 @@
 -- A file has one reading at most.
 use Rattle.std.proofs.Common.{◌≡◌, ℕ, ◌<◌, Bool, true, false, ltb, List, [], ◌∷◌, ◌++◌, length, take, drop, Ok, Err, sym, refl, ap, ◌∙◌, subst, append_assoc, append-nil, arith, take-append-drop}
+use Rattle.std.proofs.lemmas.Bool.Decides.{nat_tests}
 use Rattle.std.proofs.lemmas.List.{append_cancel_left, length-take-le}
-use Rattle.std.proofs.lemmas.Bool.{ltb-true, both_ways}
+use Rattle.std.proofs.lemmas.Bool.{ltb-true}
 use Rattle.netfile.specs.declared.progress.Stage.{Stage}
 use Rattle.netfile.specs.declared.progress.Stage.TheVariants.{Start, Arcs, Queries, Over}
 use Rattle.netfile.specs.declared.progress.Progress.{Progress}
@@ -9,18 +10,13 @@ use Rattle.netfile.specs.declared.progress.Limits.{Limits}
 use Rattle.netfile.specs.declared.reason.Reason.{Reason}
 use Rattle.netfile.specs.declared.reason.Fault.{Fault}
 use Rattle.netfile.specs.declared.records.Mark.{Mark}
-use Rattle.netfile.specs.declared.records.Mark.TheVariants.{Network, Arc, Query, Target, End}
 use Rattle.netfile.specs.Records.{letters, body_at, in_order, found}
 use Rattle.netfile.specs.Judging.{start_of_file, advanced, advanced_by, judged_next}
 use Rattle.netfile.specs.Readings.{Entry, entry_bytes, written, Good, Run, Accepts, Stops, Breaks, RefusedBy, Reading, accepted, refused, Reads}
 use Rattle.netfile.proofs.Heads.{found_again, body_again}
 
 nothing_after : (m : Mark) → in_order Over m ≡ true → ⊥
-nothing_after Network e = both_ways false refl e
-nothing_after Arc e = both_ways false refl e
-nothing_after Query e = both_ways false refl e
-nothing_after Target e = both_ways false refl e
-nothing_after End e = both_ways false refl e
+nothing_after m e = grind (arith, nat_tests)
 
 module _ (limits : Limits) (p : Progress) (e : Entry) (q : Progress) (more : List ℕ) (g : Good limits p e q) where
   -- a good record at the head of its bytes is the one that is found there
@@ -100,16 +96,10 @@ stuck_stops limits p rest why Over e h = stuck_over limits p rest e
 
 -- a place is refused for one reason
 one_reason : (limits : Limits) (p : Progress) (rest : List ℕ) (a b : Reason) (s : Stage) → Stops limits s p rest a → Stops limits s p rest b → a ≡ b
-one_reason limits p rest a b Start h k = cc
-one_reason limits p rest a b Arcs h k = cc
-one_reason limits p rest a b Queries h k = cc
-one_reason limits p rest a b Over h k = h.0 ∙ sym k.0
+one_reason limits p rest a b s h k = grind (arith, nat_tests)
 
 not_at_end : (limits : Limits) (p : Progress) (rest : List ℕ) (why : Reason) (s : Stage) → s ≡ Over → rest ≡ [] → Stops limits s p rest why → ⊥
-not_at_end limits p rest why Start o e h = let z : ◌≡◌ {A = ℕ} 0 1 = cc in omega arith
-not_at_end limits p rest why Arcs o e h = let z : ◌≡◌ {A = ℕ} 0 1 = cc in omega arith
-not_at_end limits p rest why Queries o e h = let z : ◌≡◌ {A = ℕ} 0 1 = cc in omega arith
-not_at_end limits p rest why Over o e h = let k : length rest ≡ 0 = ap length e in let l = h.1 in omega arith
+not_at_end limits p rest why s o e h = grind (arith, nat_tests)
 
 module _ (limits : Limits) (file : List ℕ) where
   whole : (es : List Entry) → written es ≡ file → written es ++ [] ≡ file

@@ -3,3 +3,4 @@ pub mod Records
 pub mod Reasons
 pub mod Judging
 pub mod Readings
+pub mod Reading

@@ -2,8 +2,7 @@
 ghost use Rattle.std.specs.Prelude.{List, MatchResult};
 ghost use Rattle.netfile.specs.Readings.{Entry, Accepts, Refuses, OneReading, ReadBack};
 
-use super::steps::step;
-use super::{Fault, Limits, Progress, Reason, Stage};
+use super::{Fault, Limits, Progress, Reader, Reason};
 
 // Reads a file whole: what its records amount to, or the first fault. Every file has exactly one reading, and records that are
 // written out are read back.
@@ -24,23 +23,7 @@ fn walk(file: &[u8], limits: Limits) -> Result<Progress, Fault>
             at: 0,
         });
     }
-    let mut progress = Progress::start();
-    let mut at = 0;
-    while !matches!(progress.stage, Stage::Over) {
-        match step(progress, limits, &file[at..]) {
-            Ok((item, after)) => {
-                at += 2 + item.mark().body_size(progress.kind);
-                progress = after;
-            }
-            Err(reason) => return Err(Fault { reason, at }),
-        }
-    }
-    let end = file.len();
-    if at < end {
-        return Err(Fault {
-            reason: Reason::Trailing,
-            at,
-        });
-    }
-    Ok(progress)
+    let mut reader = Reader::new(file, limits);
+    while let Some(_) = reader.next()? {}
+    Ok(reader.progress)
 }

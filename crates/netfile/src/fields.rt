@@ -7,10 +7,10 @@ use columns::{Columns, Kind};
 fn byte_at(body: &[u8], at: usize) -> u8
     ensures { result ≡ slice_index body.now at }
 {
-    if at < body.len() { body[at] } else { 0 }
+    body.get(at).copied().unwrap_or(0)
 }
 
-// Two bytes.
+// Two bytes. (Bytes by a const parameter N, for this and the next, would need a contract and a proof where these need none.)
 fn pair_at(body: &[u8], at: usize) -> usize
     requires { at ≤ 1000 }
     ensures { result ≡ pair body.now at }
@@ -30,6 +30,8 @@ fn word_at(body: &[u8], at: usize) -> i64
         byte_at(body, at + 3),
     ]))
 }
+
+// The fields are tuples that each reader takes apart by name: structs for them would only be longer.
 
 // The nodes and the number of the kind in a network record.
 pub fn network_fields(body: &[u8]) -> (usize, u8)
@@ -66,7 +68,7 @@ pub fn query_fields(body: &[u8]) -> (usize, usize)
     (usize::from(byte_at(body, 0)), pair_at(body, 1))
 }
 
-// The target and the most paths of a target record.
+// The target and the most paths of a target record. (They stand where an arc's ends do: one more function for both is longer.)
 pub fn target_fields(body: &[u8]) -> (usize, usize)
     ensures target { result.0 ≡ pair body.now 0 }
     ensures most { result.1 ≡ pair body.now 2 }

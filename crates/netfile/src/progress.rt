@@ -4,7 +4,7 @@ ghost use Rattle.netfile.specs.Judging.{start_of_file, at_stage};
 use super::Kind;
 
 // How far the records have come: which may follow.
-#[derive(Clone, Copy)]
+#[derive(Clone, Copy, PartialEq, Eq, Debug)]
 pub enum Stage {
     // nothing read yet
     Start,
@@ -17,7 +17,7 @@ pub enum Stage {
 }
 
 // What the records so far amount to: the network's nodes and kind, how many arcs, and where the last of them ends (0 for none).
-#[derive(Clone, Copy)]
+#[derive(Clone, Copy, PartialEq, Eq, Debug)]
 pub struct Progress {
     pub stage: Stage,
     pub nodes: usize,
@@ -27,7 +27,7 @@ pub struct Progress {
 }
 
 // What the reader of a file takes: so many bytes, so many nodes, and as many arcs as its tables have cells.
-#[derive(Clone, Copy)]
+#[derive(Clone, Copy, PartialEq, Eq, Debug)]
 pub struct Limits {
     pub bytes: usize,
     pub nodes: usize,
@@ -52,12 +52,6 @@ impl Progress {
     pub(crate) fn at_stage(self, stage: Stage) -> Progress
         ensures { result ≡ at_stage self stage }
     {
-        Progress {
-            stage,
-            nodes: self.nodes,
-            kind: self.kind,
-            count: self.count,
-            last: self.last,
-        }
+        Progress { stage, ..self }
     }
 }

@@ -4,7 +4,7 @@ ghost use Rattle.netfile.specs.Reasons.{reason_number};
 use sweeps::Refusal;
 
 // Why a file is refused.
-#[derive(Clone, Copy)]
+#[derive(Clone, Copy, PartialEq, Eq, Debug)]
 pub enum Reason {
     // an arc is not taken
     Arc(Refusal),
@@ -40,7 +40,7 @@ impl Reason {
 }
 
 // A reason, and the byte of the file that it is about, counted from 0.
-#[derive(Clone, Copy)]
+#[derive(Clone, Copy, PartialEq, Eq, Debug)]
 pub struct Fault {
     pub reason: Reason,
     pub at: usize,

@@ -5,7 +5,7 @@ ghost use Rattle.netfile.specs.Records.{spelled, body_size, in_order, mark_of, f
 use super::{Kind, Reason, Stage};
 
 // What the two letters at a record's head say.
-#[derive(Clone, Copy)]
+#[derive(Clone, Copy, PartialEq, Eq, Debug)]
 pub enum Mark {
     Network,
     Arc,
@@ -15,7 +15,7 @@ pub enum Mark {
 }
 
 // A record with its body, the bytes after its mark.
-#[derive(Clone, Copy)]
+#[derive(Clone, Copy, PartialEq, Eq, Debug)]
 pub enum Record<'a> {
     Network(&'a [u8]),
     Arc(&'a [u8]),
@@ -55,12 +55,12 @@ impl Mark {
     fn in_order(self, stage: Stage) -> bool
         ensures { result ≡ in_order stage self }
     {
-        match (stage, self) {
-            (Stage::Start, Mark::Network) => true,
-            (Stage::Arcs, Mark::Arc | Mark::Query) => true,
-            (Stage::Queries, Mark::Query | Mark::Target | Mark::End) => true,
-            _ => false,
-        }
+        matches!(
+            (stage, self),
+            (Stage::Start, Mark::Network)
+                | (Stage::Arcs, Mark::Arc | Mark::Query)
+                | (Stage::Queries, Mark::Query | Mark::Target | Mark::End)
+        )
     }
 }
 
@@ -82,20 +82,14 @@ impl<'a> Record<'a> {
 pub fn next_record<'a>(rest: &'a [u8], stage: Stage, kind: Kind) -> Result<Record<'a>, Reason>
     ensures { MatchResult result (λ item. Found stage kind rest.now item) (λ why. found stage kind rest.now ≡ Err why) }
 {
-    if rest.len() < 2 {
+    let [first, second, after @ ..] = rest else {
         return Err(Reason::CutShort);
-    }
-    let Some(mark) = Mark::spelled(rest[0], rest[1]) else {
-        return Err(Reason::BadMark);
     };
+    let mark = Mark::spelled(*first, *second).ok_or(Reason::BadMark)?;
     if !mark.in_order(stage) {
         return Err(Reason::BadMark);
     }
-    let end = 2 + mark.body_size(kind);
-    if rest.len() < end {
-        return Err(Reason::CutShort);
-    }
-    let body = &rest[2..end];
+    let body = after.get(..mark.body_size(kind)).ok_or(Reason::CutShort)?;
     Ok(match mark {
         Mark::Network => Record::Network(body),
         Mark::Arc => Record::Arc(body),

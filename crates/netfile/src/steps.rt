@@ -1,5 +1,5 @@
 // One record after another.
-ghost use Rattle.std.specs.Prelude.{◌≡◌, Err, MatchResult};
+ghost use Rattle.std.specs.Prelude.{◌≡◌, Some, None, Err, MatchResult};
 ghost use Rattle.netfile.specs.Records.{mark_of, body_of};
 ghost use Rattle.netfile.specs.Judging.{arc_judged, advanced, judged_next, Taken};
 
@@ -8,15 +8,12 @@ use super::fields::{arc_ends, network_fields, query_fields, target_fields};
 use super::records::next_record;
 use super::{Kind, Limits, Progress, Reason, Record, Stage};
 use measure::{Reversed, Sum, Then};
-use sweeps::Refusal;
+use sweeps::{MOST_NODES, Order, Refusal};
 
-const MOST_NODES: usize = 1000;
-
-const WIDEST: usize = 20;
-
-// Why the arc of this body is not taken, by the measure of the file's kind.
-fn refusal_by_kind(progress: Progress, cells: usize, body: &[u8]) -> Option<Refusal>
-    ensures { result ≡ arc_judged progress.kind progress cells body.now }
+// Refuses an arc by the measure of the file's kind. (Each arm names a type: a visitor would need a trait, and a struct here and
+// in each other crate that asks for the measure of a kind.)
+fn refusal_by_kind(progress: Progress, cells: usize, body: &[u8]) -> Result<(), Refusal>
+    ensures { let verdict = arc_judged progress.kind progress cells body.now in MatchResult result (λ _. verdict ≡ None) (λ why. verdict ≡ Some why) }
 {
     match progress.kind {
         Kind::Sum => arc_refusal::<Sum>(progress, cells, body),
@@ -33,9 +30,7 @@ fn advance(progress: Progress, limits: Limits, item: Record) -> Result<Progress,
     match item {
         Record::Network(body) => {
             let (nodes, number) = network_fields(body);
-            let Ok(kind) = Kind::try_from(number) else {
-                return Err(Reason::BadField);
-            };
+            let kind = Kind::try_from(number).map_err(|_| Reason::BadField)?;
             if nodes == 0 || nodes > MOST_NODES {
                 return Err(Reason::BadField);
             }
@@ -46,37 +41,27 @@ fn advance(progress: Progress, limits: Limits, item: Record) -> Result<Progress,
                 stage: Stage::Arcs,
                 nodes,
                 kind,
-                count: 0,
-                last: 0,
+                ..Progress::start()
             })
         }
         Record::Arc(body) => {
-            if let Some(why) = refusal_by_kind(progress, limits.arcs, body) {
-                return Err(Reason::Arc(why));
-            }
+            refusal_by_kind(progress, limits.arcs, body).map_err(Reason::Arc)?;
             let (_, last) = arc_ends(body);
             Ok(Progress {
-                stage: progress.stage,
-                nodes: progress.nodes,
-                kind: progress.kind,
                 count: progress.count + 1,
                 last,
+                ..progress
             })
         }
         Record::Query(body) => {
             let (k, source) = query_fields(body);
-            if k == 0 || k > WIDEST || source == 0 || source > MOST_NODES {
-                return Err(Reason::BadField);
-            }
+            Order::new(k, source).map_err(|_| Reason::BadField)?;
             Ok(progress.at_stage(Stage::Queries))
         }
-        Record::Target(body) => {
-            let (_, most) = target_fields(body);
-            if most == 0 {
-                return Err(Reason::BadField);
-            }
-            Ok(progress)
-        }
+        Record::Target(body) => match target_fields(body) {
+            (_, 0) => Err(Reason::BadField),
+            _ => Ok(progress),
+        },
         Record::End => Ok(progress.at_stage(Stage::Over)),
     }
 }

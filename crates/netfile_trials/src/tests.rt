@@ -25,30 +25,20 @@ fn judged(file: &[u8], limits: Limits) -> (u8, usize) {
 #[test]
 fn a_good_file_is_read(rt: HostRuntime) -> Result<(), Fail> {
     assert_eq!(rt; GOOD.len(), 53);
-    match check(GOOD, LIMITS) {
-        Ok(end) => {
-            assert_eq!(rt; end.nodes, 3);
-            assert_eq!(rt; end.count, 3);
-            assert!(rt; matches!(end.kind, Kind::Sum));
-            Ok(())
-        }
-        Err(_) => {
-            assert!(rt; false);
-            Ok(())
-        },
-    }
+    let end = check(GOOD, LIMITS)?;
+    assert_eq!(rt; (end.nodes, end.count, end.kind), (3, 3, Kind::Sum));
+    Ok(())
 }
 
 // A file that is cut anywhere is refused with 15, at the record that is cut or, between two, at its length.
 #[test]
 fn cut_files_are_refused(rt: HostRuntime) {
     for size in 0..GOOD.len() {
-        let mut at = 0;
-        for start in STARTS {
-            if start <= size {
-                at = start;
-            }
-        }
+        let at = STARTS
+            .into_iter()
+            .filter(|start| *start <= size)
+            .last()
+            .unwrap_or(0);
         assert_eq!(rt; judged(&GOOD[0..size], LIMITS), (15, at));
     }
 }
@@ -130,11 +120,7 @@ fn arcs_that_are_not_taken(rt: HostRuntime) {
         ),
         (5, 5)
     );
-    let two = Limits {
-        bytes: 32768,
-        nodes: 100,
-        arcs: 2,
-    };
+    let two = Limits { arcs: 2, ..LIMITS };
     assert_eq!(rt; judged(GOOD, two), (6, 25));
 }
 
@@ -143,15 +129,14 @@ fn what_a_reader_takes(rt: HostRuntime) {
     let few_nodes = Limits {
         bytes: 53,
         nodes: 2,
-        arcs: 3,
+        ..LIMITS
     };
     assert_eq!(rt; judged(GOOD, few_nodes), (19, 0));
     assert_eq!(rt; judged(b"NW\x00\x65\x01??", LIMITS), (19, 0));
     assert_eq!(rt; judged(b"NW\x00\x65\x05", LIMITS), (17, 0));
     let few_bytes = Limits {
         bytes: 52,
-        nodes: 2,
-        arcs: 3,
+        ..few_nodes
     };
     assert_eq!(rt; judged(GOOD, few_bytes), (20, 0));
 }
@@ -175,14 +160,10 @@ fn faults_further_on(rt: HostRuntime) {
     );
     let none = Limits {
         bytes: 0,
-        nodes: 100,
         arcs: 0,
+        ..LIMITS
     };
     assert_eq!(rt; judged(b"N", none), (20, 0));
-    let no_arcs = Limits {
-        bytes: 32768,
-        nodes: 100,
-        arcs: 0,
-    };
+    let no_arcs = Limits { arcs: 0, ..LIMITS };
     assert_eq!(rt; judged(GOOD, no_arcs), (6, 5));
 }

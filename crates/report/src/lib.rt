@@ -3,7 +3,6 @@
 
 mod lines;
 mod refusals;
-mod texts;
 
 pub use lines::{end_line, goes_on, path_line, row_line, solve_line, trace_line};
 pub use refusals::{file_refused_line, solve_refused_line, trace_refused_line, trace_skipped_line};

@@ -2,7 +2,6 @@
 ghost use Rattle.std.specs.Prelude.{◌≡◌, ◌^◌, ◌<◌, ◌++◌, IfOk, if◌then◌else◌, string_bytes, codes, decimal, nat_lt};
 ghost use Rattle.report.specs.Lists.{length_text, row_listed, nodes_listed};
 
-use super::texts::{lengths_text, nodes_text};
 use columns::{Columns, column_text};
 use std::alloc::{AllocError, Global};
 
@@ -18,21 +17,19 @@ pub fn solve_line(
     format!(in heap; "solve K {k} from {source} passes {passes}")
 }
 
-fn empty_row_line(heap: Global, node: usize) -> Result<String, AllocError>
-    ensures { IfOk result (λ t. string_bytes t ≡ codes "node " ++ (decimal node ++ codes " lengths none")) }
-{
-    format!(in heap; "node {node} lengths none")
-}
-
 // The row of a node, as `node 2 lengths 3 4 5` or `node 2 lengths none`.
 pub fn row_line<M: Columns>(heap: Global, node: usize, row: &[M]) -> Result<String, AllocError>
     ensures { M.Columns.columnar.width < 2 ^ 64 → IfOk result (λ t. string_bytes t ≡ codes "node " ++ (decimal node ++ (codes " lengths" ++ row_listed M.Columns.columnar row.now))) }
 {
+    let mut line = format!(in heap; "node {node} lengths")?;
     if row.is_empty() {
-        return empty_row_line(heap, node);
+        line.push_str(" none")?;
     }
-    let lengths = lengths_text(heap, row)?;
-    format!(in heap; "node {node} lengths{lengths}")
+    for value in row {
+        let shown = column_text(heap, value)?;
+        write!(line, " {shown}")?;
+    }
+    Ok(line)
 }
 
 // The head of a trace, as `trace to 4`.
@@ -51,8 +48,11 @@ pub fn path_line<M: Columns>(
     ensures { M.Columns.columnar.width < 2 ^ 64 → IfOk result (λ t. string_bytes t ≡ length_text M.Columns.columnar length.now ++ (codes " :" ++ nodes_listed nodes.now)) }
 {
     let shown = column_text(heap, length)?;
-    let visited = nodes_text(heap, nodes)?;
-    format!(in heap; "{shown} :{visited}")
+    let mut line = format!(in heap; "{shown} :")?;
+    for node in nodes {
+        write!(line, " {node}")?;
+    }
+    Ok(line)
 }
 
 // Whether a trace goes on after so many paths.

@@ -8,7 +8,7 @@ use measure::Measure;
 use sweeps::{Arc, LONGEST, MOST_NODES, Refusal};
 
 // The most arcs of a session.
-const MOST_ARCS: usize = 10000;
+pub const MOST_ARCS: usize = 10000;
 
 impl Draft {
     // A draft for so many nodes, without arcs.

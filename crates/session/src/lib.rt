@@ -7,6 +7,7 @@ mod solving;
 mod stages;
 mod traces;
 
+pub use draft::MOST_ARCS;
 pub use stages::{Draft, Settled, Trace};
 pub use sweeps::{Arc, Order, Refusal, Solved};
 pub use tracing::Step;

@@ -1,0 +1,37 @@
+-- What a reader tells of the records of its file.
+use Rattle.std.specs.Prelude.{◌≡◌, ◌+◌, length, drop, Some, None, Ok, Err, Option, Result}
+use Rattle.netfile.specs.declared.progress.Stage.TheVariants.{Over}
+use Rattle.netfile.specs.declared.reason.Fault.{Fault}
+use Rattle.netfile.specs.declared.records.Record.{Record}
+use Rattle.netfile.specs.declared.reader.Reader.{Reader}
+use Rattle.netfile.specs.Records.{mark_of, body_size}
+use Rattle.netfile.specs.Judging.{Taken}
+use Rattle.netfile.specs.Readings.{Stops}
+
+-- the same file, read by the same limits
+pub record SameFile (r r' : Reader) : Type 0 where
+  pub file : r'.file.now ≡ r.file.now
+  pub limits : r'.limits ≡ r.limits
+
+-- the record where the reader was is taken, and it goes on behind that record
+pub record Passed (r : Reader) (item : Record) (r' : Reader) : Type 0 where
+  pub same : SameFile r r'
+  pub taken : Taken r.limits r.progress (drop r.at r.file.now) item r'.progress
+  pub at : r'.at ≡ r.at + (2 + body_size (mark_of item) r.progress.kind)
+
+-- no byte is left behind an end record
+pub record Ended (r r' : Reader) : Type 0 where
+  pub over : r.progress.stage ≡ Over
+  pub at : r.at ≡ length r.file.now
+  pub progress : r'.progress ≡ r.progress
+
+-- what stands where the reader was is refused
+pub record Refused (r : Reader) (f : Fault) : Type 0 where
+  pub at : f.at ≡ r.at
+  pub stops : Stops r.limits r.progress.stage r.progress (drop r.at r.file.now) f.reason
+
+-- an answer of the reader, and how it left itself
+abbrev pub Told : Reader → Result (Option Record) Fault → Reader → Type 0
+Told r (Ok (Some item)) r' = Passed r item r'
+Told r (Ok None) r' = Ended r r'
+Told r (Err f) r' = Refused r f
