@@ -9,7 +9,7 @@ use Rattle.walks.specs.Rows.{Ascending}
 use Rattle.walks.specs.Method.{takes, uses}
 use Rattle.sweeps.specs.declared.Arc.{Arc}
 use Rattle.sweeps.specs.Tables.{network, no_arc, InOrder, start_of, cells, count_of, row_of}
-use Rattle.sweeps.specs.Nodes.{Indexed, Known, Shape, TwoRows, Marked, worked, RowIs, ArcWorked, node_row}
+use Rattle.sweeps.specs.Nodes.{IsNode, Indexed, Known, Shape, TwoRows, Marked, worked, RowIs, ArcWorked, node_row}
 use Rattle.sweeps.proofs.Working.{row_below, apart_cases, worked_up}
 
 pub formed_of : {V : Type 0} (m : Algebra V) (net : Network V) → InOrder m net → WellFormed m net
@@ -88,7 +88,7 @@ block_arc m n arcs lengths first known j one le a low high =
     record { inside = inside; into = into; low = p.start_low; high = p.start_high; apart = λ e. p.apart (e ∙ sym into) }
 
 -- the part of the tables that holds the arcs into node j
-module _ {V : Type 0} (m : Algebra V) (n : ℕ) (arcs : List Arc) (lengths : List V) (first : List ℕ) (known : Known m n arcs lengths first) (j : ℕ) (one : 1 ≤ j) (le : j ≤ n) (part : List Arc) (parts : List V)
+module _ {V : Type 0} {m : Algebra V} {n : ℕ} {arcs : List Arc} {lengths : List V} {first : List ℕ} (known : Known m n arcs lengths first) {j : ℕ} (node : IsNode n j) {part : List Arc} {parts : List V}
     (part_is : part ≡ slice_range arcs (get_or first (j - 1) 0) (get_or first j 0)) (parts_are : parts ≡ slice_range lengths (get_or first (j - 1) 0) (get_or first j 0)) where
   -- an arc of that part, and its length
   pub record BlockItem (i : ℕ) (arc : Arc) (x : V) : Type 0 where
@@ -96,23 +96,23 @@ module _ {V : Type 0} (m : Algebra V) (n : ℕ) (arcs : List Arc) (lengths : Lis
     pub arc_is : arc ≡ get_or arcs (get_or first (j - 1) 0 + i) no_arc
     pub x_is : x ≡ get_or lengths (get_or first (j - 1) 0 + i) m.null
 
-  pub block_item : (i : ℕ) (arc : Arc) (x : V) → (i < length part) × (i < length parts) × ((d : Arc) → arc ≡ get_or part i d) × ((d : V) → x ≡ get_or parts i d) → BlockItem i arc x
-  block_item i arc x h =
+  pub block_item : {i : ℕ} {arc : Arc} {x : V} → (i < length part) × (i < length parts) × ((d : Arc) → arc ≡ get_or part i d) × ((d : V) → x ≡ get_or parts i d) → BlockItem i arc x
+  block_item {i = i} {arc = arc} {x = x} h =
       let lo : ℕ = get_or first (j - 1) 0 in
       let hi : ℕ = get_or first j 0 in
       let inside : i < hi - lo = omega (arith, h.0, ap length part_is, length-take (hi - lo) (drop lo arcs)) in
       record {
-        block = block_arc m n arcs lengths first known j one le (lo + i) (omega arith) (omega arith);
+        block = block_arc m n arcs lengths first known j node.low node.high (lo + i) (omega arith) (omega arith);
         arc_is = h.2 no_arc ∙ ap (λ z. get_or z i no_arc) part_is ∙ get_or-take (hi - lo) (drop lo arcs) i no_arc inside ∙ get_or-drop lo arcs i no_arc;
         x_is = h.3 m.null ∙ ap (λ z. get_or z i m.null) parts_are ∙ get_or-take (hi - lo) (drop lo lengths) i m.null inside ∙ get_or-drop lo lengths i m.null;
       }
 
-  pub block_size : (i : ℕ) → i ≡ min (length part) (length parts) → get_or first (j - 1) 0 + i ≡ get_or first j 0
-  block_size i e =
+  pub block_size : {i : ℕ} → i ≡ min (length part) (length parts) → get_or first (j - 1) 0 + i ≡ get_or first j 0
+  block_size {i = i} e =
       let lo : ℕ = get_or first (j - 1) 0 in
       let hi : ℕ = get_or first j 0 in
-      let few = known.indexed.few j le in
-      let up = block_ordered (network m n arcs lengths) first known.indexed j one le in
+      let few = known.indexed.few j node.high in
+      let up = block_ordered (network m n arcs lengths) first known.indexed j node.low node.high in
       omega (arith, ap length part_is, length-take (hi - lo) (drop lo arcs), length-drop lo arcs, ap length parts_are, length-take (hi - lo) (drop lo lengths), length-drop lo lengths)
 
 pub in_block : {V : Type 0} (net : Network V) (first : List ℕ) → Indexed net first → (j a : ℕ) → 1 ≤ j → j ≤ net.nodes → 1 ≤ a → a ≤ net.arcs → net.end a ≡ j → (get_or first (j - 1) 0 < a) × (a ≤ get_or first j 0)

@@ -14,24 +14,18 @@ use Rattle.sweeps.proofs.firsts.Rows.free.Goals.{else-ranks-arc-eq0-via-then-ran
 
 pub overflow_sub-arc : goal.overflow_sub-arc
 overflow_sub-arc g c =
-    let m = g.M.Measure.algebra in
     let rows = c.args.self.now in
     let net = rows.net.now in
-    let n = length c.loop-arc.yielded in
-    let b = block_item m net.nodes net.arcs.now net.lengths.now net.first.now net.known c.args.j c.requires.node.low c.requires.node.high _ _ c.into_node.ensures.arcs c.into_node.ensures.lengths _ _ _
+    let b = block_item net.known c.requires.node c.into_node.ensures.arcs c.into_node.ensures.lengths
     (sides_turn c.into_iter-arc-iterator.ensures.into_iter_gives c.zip-arc-items.ensures.first c.iter.ensures.rest c.zip-arc-items.ensures.second.0 c.loop-arc.yielded c.loop-arc.arc-iterator c.next.new.self c.loop-arc.yielded_by (c.in-Some.arc, c.in-Some.x) c.in-Some.is c.next.ensures.steps) in
-    let a = get_or net.first.now (c.args.j - 1) 0 + n in
     omega (arith, b.block.low, ap (λ z. z.start) b.arc_is)
 
 pub bounds-ranks-arc : goal.bounds-ranks-arc
 bounds-ranks-arc g c =
-    let m = g.M.Measure.algebra in
     let rows = c.args.self.now in
     let net = rows.net.now in
-    let n = length c.loop-arc.yielded in
-    let b = block_item m net.nodes net.arcs.now net.lengths.now net.first.now net.known c.args.j c.requires.node.low c.requires.node.high _ _ c.into_node.ensures.arcs c.into_node.ensures.lengths _ _ _
+    let b = block_item net.known c.requires.node c.into_node.ensures.arcs c.into_node.ensures.lengths
     (sides_turn c.into_iter-arc-iterator.ensures.into_iter_gives c.zip-arc-items.ensures.first c.iter.ensures.rest c.zip-arc-items.ensures.second.0 c.loop-arc.yielded c.loop-arc.arc-iterator c.next.new.self c.loop-arc.yielded_by (c.in-Some.arc, c.in-Some.x) c.in-Some.is c.next.ensures.steps) in
-    let a = get_or net.first.now (c.args.j - 1) 0 + n in
     omega (arith, b.block.low, b.block.high, ap (λ z. z.start) b.arc_is, c.requires.room)
 
 pub tight-requires : goal.tight-requires
@@ -40,7 +34,7 @@ tight-requires g c =
     let rows = c.args.self.now in
     let net = rows.net.now in
     let n = length c.loop-arc.yielded in
-    let b = block_item m net.nodes net.arcs.now net.lengths.now net.first.now net.known c.args.j c.requires.node.low c.requires.node.high _ _ c.into_node.ensures.arcs c.into_node.ensures.lengths _ _ _
+    let b = block_item net.known c.requires.node c.into_node.ensures.arcs c.into_node.ensures.lengths
     (sides_turn c.into_iter-arc-iterator.ensures.into_iter_gives c.zip-arc-items.ensures.first c.iter.ensures.rest c.zip-arc-items.ensures.second.0 c.loop-arc.yielded c.loop-arc.arc-iterator c.next.new.self c.loop-arc.yielded_by (c.in-Some.arc, c.in-Some.x) c.in-Some.is c.next.ensures.steps) in
     let a = get_or net.first.now (c.args.j - 1) 0 + n in
     proper_fits m net.nodes net.arcs.now net.lengths.now a _ _ b.arc_is b.x_is (net.known.ordered.proper (suc a) (omega arith) (omega (arith, b.block.inside)))
@@ -51,7 +45,7 @@ returns-then-tight g c =
     let rows = c.args.self.now in
     let net = rows.net.now in
     let n = length c.loop-arc.yielded in
-    let b = block_item m net.nodes net.arcs.now net.lengths.now net.first.now net.known c.args.j c.requires.node.low c.requires.node.high _ _ c.into_node.ensures.arcs c.into_node.ensures.lengths _ _ _
+    let b = block_item net.known c.requires.node c.into_node.ensures.arcs c.into_node.ensures.lengths
     (sides_turn c.into_iter-arc-iterator.ensures.into_iter_gives c.zip-arc-items.ensures.first c.iter.ensures.rest c.zip-arc-items.ensures.second.0 c.loop-arc.yielded c.loop-arc.arc-iterator c.next.new.self c.loop-arc.yielded_by (c.in-Some.arc, c.in-Some.x) c.in-Some.is c.next.ensures.steps) in
     let a = get_or net.first.now (c.args.j - 1) 0 + n in
     record {
@@ -69,7 +63,7 @@ loop-arc-preserved g c = λ i low high t.
     let rows = c.args.self.now in
     let net = rows.net.now in
     let n = length c.loop-arc.yielded in
-    let b = block_item m net.nodes net.arcs.now net.lengths.now net.first.now net.known c.args.j c.requires.node.low c.requires.node.high _ _ c.into_node.ensures.arcs c.into_node.ensures.lengths _ _ _
+    let b = block_item net.known c.requires.node c.into_node.ensures.arcs c.into_node.ensures.lengths
     (sides_turn c.into_iter-arc-iterator.ensures.into_iter_gives c.zip-arc-items.ensures.first c.iter.ensures.rest c.zip-arc-items.ensures.second.0 c.loop-arc.yielded c.loop-arc.arc-iterator c.next.new.self c.loop-arc.yielded_by (c.in-Some.arc, c.in-Some.x) c.in-Some.is c.next.ensures.steps) in
     let a = get_or net.first.now (c.args.j - 1) 0 + n in
     elim (cases_eq i (suc a)) [
@@ -86,7 +80,7 @@ loop-arc-preserved g c = λ i low high t.
 pub returns : goal.returns
 returns g c = λ a low high t e.
     let net = c.args.self.now.net.now in
-    let size = block_size g.M.Measure.algebra net.nodes net.arcs.now net.lengths.now net.first.now net.known c.args.j c.requires.node.low c.requires.node.high _ _ c.into_node.ensures.arcs c.into_node.ensures.lengths _
+    let size = block_size net.known c.requires.node c.into_node.ensures.arcs c.into_node.ensures.lengths
     (sides_end c.into_iter-arc-iterator.ensures.into_iter_gives c.zip-arc-items.ensures.first c.iter.ensures.rest c.zip-arc-items.ensures.second.0 c.loop-arc.yielded c.loop-arc.arc-iterator c.next.new.self c.loop-arc.yielded_by c.in-None.is c.next.ensures.steps) in
     let b = in_block (net_of g.M.Measure.algebra net) net.first.now net.known.indexed c.args.j a c.requires.node.low c.requires.node.high low high e in
     c.loop-arc.invariant a b.0 (omega (arith, b.1)) t

@@ -48,5 +48,4 @@ loop-arc-preserved g c = λ a low high.
 
 pub returns : goal.returns
 returns g c = λ a low high.
-    let net = c.args.self.now.net.now in
     c.loop-arc.invariant a low (omega (arith, sides_end c.into_iter-arc-iterator.ensures.into_iter_gives c.zip-arc-items.ensures.first c.iter.ensures.rest c.zip-arc-items.ensures.second.0 c.loop-arc.yielded c.loop-arc.arc-iterator c.next.new.self c.loop-arc.yielded_by c.in-None.is c.next.ensures.steps))

@@ -13,35 +13,26 @@ loop-arc-init g c =
 
 pub overflow_sub-from : goal.overflow_sub-from
 overflow_sub-from g c =
-    let m = g.M.Measure.algebra in
     let p = c.args in
     let net = p.self.now in
-    let n = length c.loop-arc.yielded in
-    let b = block_item m net.nodes net.arcs.now net.lengths.now net.first.now net.known p.j c.requires.node.low c.requires.node.high _ _ c.into_node.ensures.arcs c.into_node.ensures.lengths _ _ _
+    let b = block_item net.known c.requires.node c.into_node.ensures.arcs c.into_node.ensures.lengths
     (sides_turn c.into_iter-arc-iterator.ensures.into_iter_gives c.zip-arc-items.ensures.first c.iter.ensures.rest c.zip-arc-items.ensures.second.0 c.loop-arc.yielded c.loop-arc.arc-iterator c.next.new.self c.loop-arc.yielded_by (c.in-Some.arc, c.in-Some.x) c.in-Some.is c.next.ensures.steps) in
-    let a = get_or net.first.now (p.j - 1) 0 + n in
     omega (arith, b.block.low, ap (λ z. z.start) b.arc_is)
 
 pub bounds-counts-from : goal.bounds-counts-from
 bounds-counts-from g c =
-    let m = g.M.Measure.algebra in
     let p = c.args in
     let net = p.self.now in
-    let n = length c.loop-arc.yielded in
-    let b = block_item m net.nodes net.arcs.now net.lengths.now net.first.now net.known p.j c.requires.node.low c.requires.node.high _ _ c.into_node.ensures.arcs c.into_node.ensures.lengths _ _ _
+    let b = block_item net.known c.requires.node c.into_node.ensures.arcs c.into_node.ensures.lengths
     (sides_turn c.into_iter-arc-iterator.ensures.into_iter_gives c.zip-arc-items.ensures.first c.iter.ensures.rest c.zip-arc-items.ensures.second.0 c.loop-arc.yielded c.loop-arc.arc-iterator c.next.new.self c.loop-arc.yielded_by (c.in-Some.arc, c.in-Some.x) c.in-Some.is c.next.ensures.steps) in
-    let a = get_or net.first.now (p.j - 1) 0 + n in
     omega (arith, b.block.low, b.block.high, ap (λ z. z.start) b.arc_is, c.requires.shape.nodes)
 
 pub work_arc-requires : goal.work_arc-requires
 work_arc-requires g c =
-    let m = g.M.Measure.algebra in
     let p = c.args in
     let net = p.self.now in
-    let n = length c.loop-arc.yielded in
-    let b = block_item m net.nodes net.arcs.now net.lengths.now net.first.now net.known p.j c.requires.node.low c.requires.node.high _ _ c.into_node.ensures.arcs c.into_node.ensures.lengths _ _ _
+    let b = block_item net.known c.requires.node c.into_node.ensures.arcs c.into_node.ensures.lengths
     (sides_turn c.into_iter-arc-iterator.ensures.into_iter_gives c.zip-arc-items.ensures.first c.iter.ensures.rest c.zip-arc-items.ensures.second.0 c.loop-arc.yielded c.loop-arc.arc-iterator c.next.new.self c.loop-arc.yielded_by (c.in-Some.arc, c.in-Some.x) c.in-Some.is c.next.ensures.steps) in
-    let a = get_or net.first.now (p.j - 1) 0 + n in
     let e = ap (λ z. z.start) b.arc_is in
     two_rows net.nodes p.k (length p.values.now) _ c.in-Some.arc.now.start p.j _ p.counts.now c.requires.shape c.loop-arc.auto.values (omega (arith, e, b.block.low)) (omega (arith, e, b.block.high)) c.requires.node.low c.requires.node.high
     (λ z. b.block.apart (sym e ∙ z)) c.loop-arc.invariant.bound
@@ -52,7 +43,7 @@ loop-arc-preserved-then-taken g c =
     let p = c.args in
     let net = p.self.now in
     let n = length c.loop-arc.yielded in
-    let b = block_item m net.nodes net.arcs.now net.lengths.now net.first.now net.known p.j c.requires.node.low c.requires.node.high _ _ c.into_node.ensures.arcs c.into_node.ensures.lengths _ _ _
+    let b = block_item net.known c.requires.node c.into_node.ensures.arcs c.into_node.ensures.lengths
     (sides_turn c.into_iter-arc-iterator.ensures.into_iter_gives c.zip-arc-items.ensures.first c.iter.ensures.rest c.zip-arc-items.ensures.second.0 c.loop-arc.yielded c.loop-arc.arc-iterator c.next.new.self c.loop-arc.yielded_by (c.in-Some.arc, c.in-Some.x) c.in-Some.is c.next.ensures.steps) in
     let a = get_or net.first.now (p.j - 1) 0 + n in
     let way = uses_taken (net_of m net) p.down p.j (suc a) b.block.into ∙ ap (λ z. z.«open» && takes p.down z.start p.j) (sym b.arc_is) ∙ sym c.taken.ensures ∙ c.if-taken.true in
@@ -65,7 +56,7 @@ loop-arc-preserved g c =
     let p = c.args in
     let net = p.self.now in
     let n = length c.loop-arc.yielded in
-    let b = block_item m net.nodes net.arcs.now net.lengths.now net.first.now net.known p.j c.requires.node.low c.requires.node.high _ _ c.into_node.ensures.arcs c.into_node.ensures.lengths _ _ _
+    let b = block_item net.known c.requires.node c.into_node.ensures.arcs c.into_node.ensures.lengths
     (sides_turn c.into_iter-arc-iterator.ensures.into_iter_gives c.zip-arc-items.ensures.first c.iter.ensures.rest c.zip-arc-items.ensures.second.0 c.loop-arc.yielded c.loop-arc.arc-iterator c.next.new.self c.loop-arc.yielded_by (c.in-Some.arc, c.in-Some.x) c.in-Some.is c.next.ensures.steps) in
     let a = get_or net.first.now (p.j - 1) 0 + n in
     let way = uses_taken (net_of m net) p.down p.j (suc a) b.block.into ∙ ap (λ z. z.«open» && takes p.down z.start p.j) (sym b.arc_is) ∙ sym c.taken.ensures ∙ c.if-taken.false in
@@ -75,7 +66,7 @@ pub returns : goal.returns
 returns g c =
     let p = c.args in
     let net = p.self.now in
-    let size = block_size g.M.Measure.algebra net.nodes net.arcs.now net.lengths.now net.first.now net.known p.j c.requires.node.low c.requires.node.high _ _ c.into_node.ensures.arcs c.into_node.ensures.lengths _
+    let size = block_size net.known c.requires.node c.into_node.ensures.arcs c.into_node.ensures.lengths
     (sides_end c.into_iter-arc-iterator.ensures.into_iter_gives c.zip-arc-items.ensures.first c.iter.ensures.rest c.zip-arc-items.ensures.second.0 c.loop-arc.yielded c.loop-arc.arc-iterator c.next.new.self c.loop-arc.yielded_by c.in-None.is c.next.ensures.steps) in
     record {
       count = c.loop-arc.row.held;
