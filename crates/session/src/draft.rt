@@ -1,7 +1,7 @@
 // What a draft takes: arcs, other lengths for them, and marks.
 ghost use Rattle.std.specs.Prelude.{◌≡◌, true, false, min, List, length, take};
 ghost use Rattle.session.specs.Nets.{Net};
-ghost use Rattle.session.specs.Drafts.{DraftHolds, NewDraft, PutDone, PutMeant, MarkDone, MarkMeant, RelengthDone, RelengthMeant};
+ghost use Rattle.session.specs.Drafts.{DraftHolds, NewDraft, PutDone, PutMeant, MarkDone, RelengthDone, RelengthMeant};
 
 use super::Draft;
 use measure::Measure;

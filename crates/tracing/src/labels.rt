@@ -45,14 +45,7 @@ impl<M: Measure> Lent<'_, M> {
             return None;
         }
         let node = arc.start as usize;
-        (0..self.order.k).find(|place| self.comes(
-            Label {
-                node,
-                place: *place,
-            },
-            x,
-            here,
-        ))
+        (0..self.order.k).find(|&place| self.comes(Label { node, place }, x, here))
     }
 
     // Whether a label is null at the source.
