@@ -16,6 +16,7 @@ impl<M: Columns> Tables<M> {
     // Takes the arc of this body into a draft.
     fn put(&mut self, draft: &mut Draft, kind: Kind, body: &[u8]) {
         let (start, end) = arc_ends(body);
+        // the arcs of a checked file have a length and are taken
         if let Some(length) = arc_length::<M>(body, kind) {
             let _ = draft.put(&mut self.arcs, &mut self.lengths, start, end, length);
         }
@@ -35,6 +36,7 @@ impl<M: Columns> Tables<M> {
             Session::Solved(settled, _) => settled.reopen(&mut self.values, &mut self.counts),
         };
         let (k, source) = query_fields(body);
+        // a checked file asks for no other orders
         let Ok(order) = Order::new(k, source) else {
             return Ok(Session::Draft(draft));
         };
@@ -92,39 +94,32 @@ impl<M: Columns> Tables<M> {
     ) -> Result<Session, Failure> {
         let heap = rt.alloc();
         let (target, most) = target_fields(body);
-        match session {
-            Session::Solved(settled, source) => {
-                match settled.trace(target, &self.work, &self.path) {
-                    Ok(mut trace) => {
-                        rt.println(trace_line(heap, target)?)?;
-                        let mut count = 0;
-                        while goes_on(count, most) && self.print_next(rt, &mut trace, source)? {
-                            count += 1;
-                        }
-                        let left = trace
-                            .next(
-                                &self.arcs,
-                                &self.lengths,
-                                &self.values,
-                                &self.counts,
-                                &mut self.work,
-                                &mut self.path,
-                            )
-                            .is_some();
-                        rt.println(end_line(heap, count, left)?)?;
-                        Ok(Session::Solved(trace.finish(), source))
-                    }
-                    Err((settled, why)) => {
-                        rt.println(trace_refused_line(heap, why.number())?)?;
-                        Ok(Session::Solved(settled, source))
-                    }
-                }
+        let Session::Solved(settled, source) = session else {
+            rt.println(trace_skipped_line(heap)?)?;
+            return Ok(session);
+        };
+        let mut trace = match settled.trace(target, &self.work, &self.path) {
+            Ok(trace) => trace,
+            Err((settled, why)) => {
+                rt.println(trace_refused_line(heap, why.number())?)?;
+                return Ok(Session::Solved(settled, source));
             }
-            draft => {
-                rt.println(trace_skipped_line(heap)?)?;
-                Ok(draft)
-            }
+        };
+        rt.println(trace_line(heap, target)?)?;
+        let mut count = 0;
+        while goes_on(count, most) && self.print_next(rt, &mut trace, source)? {
+            count += 1;
         }
+        let left = trace.next(
+            &self.arcs,
+            &self.lengths,
+            &self.values,
+            &self.counts,
+            &mut self.work,
+            &mut self.path,
+        );
+        rt.println(end_line(heap, count, left.is_some())?)?;
+        Ok(Session::Solved(trace.finish(), source))
     }
 }
 
@@ -140,6 +135,7 @@ pub(crate) fn answer<M: Columns>(
     };
     let mut session = Session::Draft(draft);
     let mut reader = Reader::new(file, LIMITS);
+    // a checked file has no fault
     while let Ok(Some(item)) = reader.next() {
         match item {
             Record::Arc(body) => {

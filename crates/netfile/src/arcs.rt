@@ -1,4 +1,4 @@
-ghost use Rattle.std.specs.Prelude.{◌≡◌, Some, None, MatchResult};
+ghost use Rattle.std.specs.Prelude.{◌≡◌, ◌<◌, Some, None, MatchResult, OnOk};
 ghost use Rattle.netfile.specs.Judging.{put_judged};
 
 use super::Progress;
@@ -9,7 +9,8 @@ use sweeps::{LONGEST, Refusal};
 
 // Refuses the arc of this body if a session with tables of so many cells would not take it.
 pub fn arc_refusal<M: Columns>(progress: Progress, cells: usize, body: &[u8]) -> Result<(), Refusal>
-    ensures { let verdict = put_judged M.Measure.algebra M.Columns.columnar progress cells body.now in MatchResult result (λ _. verdict ≡ None) (λ why. verdict ≡ Some why) }
+    ensures verdict { let verdict = put_judged M.Measure.algebra M.Columns.columnar progress cells body.now in MatchResult result (λ _. verdict ≡ None) (λ why. verdict ≡ Some why) }
+    ensures room { OnOk result (progress.count < 10000) }
 {
     let length = arc_length::<M>(body, progress.kind).ok_or(Refusal::TooLong)?;
     let (start, end) = arc_ends(body);

@@ -1,5 +1,5 @@
 // One record after another.
-ghost use Rattle.std.specs.Prelude.{◌≡◌, Some, None, Err, MatchResult};
+ghost use Rattle.std.specs.Prelude.{◌≡◌, ◌<◌, Some, None, Err, MatchResult, OnOk};
 ghost use Rattle.netfile.specs.Records.{mark_of, body_of};
 ghost use Rattle.netfile.specs.Judging.{arc_judged, advanced, judged_next, Taken};
 
@@ -13,7 +13,8 @@ use sweeps::{MOST_NODES, Order, Refusal};
 // Refuses an arc by the measure of the file's kind. (Each arm names a type: a visitor would need a trait, and a struct here and
 // in each other crate that asks for the measure of a kind.)
 fn refusal_by_kind(progress: Progress, cells: usize, body: &[u8]) -> Result<(), Refusal>
-    ensures { let verdict = arc_judged progress.kind progress cells body.now in MatchResult result (λ _. verdict ≡ None) (λ why. verdict ≡ Some why) }
+    ensures verdict { let verdict = arc_judged progress.kind progress cells body.now in MatchResult result (λ _. verdict ≡ None) (λ why. verdict ≡ Some why) }
+    ensures room { OnOk result (progress.count < 10000) }
 {
     match progress.kind {
         Kind::Sum => arc_refusal::<Sum>(progress, cells, body),
