@@ -1,15 +1,9 @@
 // Builds small networks by calls, solves them and prints their rows.
 #![tactic(auto)]
 
-use anyhow::anyhow;
 use columns::column_text;
 use measure::{Measure, Sum};
 use session::{Arc, Draft, Order, Refusal, Settled};
-
-// A refusal implements no `Error`, so `?` alone does not take it.
-fn refused(why: Refusal) -> anyhow::Error {
-    anyhow!("refused with {}", why.number())
-}
 
 // A draft of arcs, each a start, an end and a length, with its tables.
 fn drafted<const N: usize>(
@@ -37,10 +31,7 @@ fn print_rows(
     for node in 1..=nodes {
         let mut line = format!(in rt.alloc(); "node {node} lengths")?;
         for place in 1..=k {
-            match settled
-                .length(values, counts, node, place)
-                .map_err(refused)?
-            {
+            match settled.length(values, counts, node, place)? {
                 Some(length) => write!(line, " {}", column_text(rt.alloc(), &length)?)?,
                 None if place == 1 => line.push_str(" none")?,
                 None => {}
@@ -88,18 +79,18 @@ fn four_nodes(rt: &HostRuntime) -> anyhow::Result<()> {
         (2, 4, 5),
         (3, 4, 7),
     ];
-    let (draft, arcs, lengths) = drafted(4, list).map_err(refused)?;
-    let order = Order::new(3, 1).map_err(refused)?;
+    let (draft, arcs, lengths) = drafted(4, list)?;
+    let order = Order::new(3, 1)?;
     show(rt, draft, 4, order, &arcs, &lengths)?;
     Ok(())
 }
 
 // A rebate of 4 on the way back makes a circuit before null; with that arc closed there is none.
 fn rebate(rt: &HostRuntime) -> anyhow::Result<()> {
-    let (draft, mut arcs, lengths) = drafted(2, [(2, 1, -4), (1, 2, 3)]).map_err(refused)?;
-    let order = Order::new(2, 1).map_err(refused)?;
+    let (draft, mut arcs, lengths) = drafted(2, [(2, 1, -4), (1, 2, 3)])?;
+    let order = Order::new(2, 1)?;
     let draft = show(rt, draft, 2, order, &arcs, &lengths)?;
-    draft.close(&mut arcs, 1).map_err(refused)?;
+    draft.close(&mut arcs, 1)?;
     show(rt, draft, 2, order, &arcs, &lengths)?;
     Ok(())
 }

@@ -1,6 +1,9 @@
 // Why a call is refused.
-ghost use Rattle.std.specs.Prelude.{◌≡◌};
+ghost use Rattle.std.specs.Prelude.{◌≡◌, Some, ◌++◌, codes, decimal};
 ghost use Rattle.sweeps.specs.Refusals.{number};
+
+use std::error::Error;
+use std::fmt;
 
 #[derive(Clone, Copy, PartialEq, Eq, Debug)]
 pub enum Refusal {
@@ -39,3 +42,13 @@ impl Refusal {
         self as u8
     }
 }
+
+impl fmt::Display for Refusal {
+    ghost output = { λ r. Some (codes "refused with " ++ decimal (number r)) };
+
+    fn fmt<W: fmt::Write>(&self, f: &mut fmt::Formatter<W>) -> fmt::Result {
+        write!(f, "refused with {}", self.number())
+    }
+}
+
+impl Error for Refusal {}

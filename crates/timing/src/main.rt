@@ -1,9 +1,8 @@
 // Solves two large networks and prints how many passes each takes; with the argument `clock` also how long.
 #![tactic(auto)]
 
-use anyhow::anyhow;
 use measure::{Measure, Sum};
-use session::{Arc, Draft, Order, Refusal};
+use session::{Arc, Draft, Order};
 use std::alloc::Global;
 use std::env;
 use std::time::Instant;
@@ -19,11 +18,6 @@ const NODES: usize = 1000;
 
 // How often each solve is timed.
 const TURNS: u32 = 5;
-
-// A refusal implements no `Error`, so `?` alone does not take it.
-fn refused(why: Refusal) -> anyhow::Error {
-    anyhow!("refused with {}", why.number())
-}
 
 // Numbers that look random, the same in every run. The crate trials has another generator; what each prints is pinned.
 #[derive(Drop)]
@@ -64,7 +58,7 @@ impl Network {
             name,
             nodes,
             k,
-            draft: Draft::new(nodes).map_err(refused)?,
+            draft: Draft::new(nodes)?,
             arcs: vec![in heap; Arc::default(); ARCS]?,
             lengths: vec![in heap; Sum::null(); ARCS]?,
         })
@@ -72,8 +66,7 @@ impl Network {
 
     fn put(&mut self, start: usize, end: usize, length: Sum) -> anyhow::Result<()> {
         self.draft
-            .put(&mut self.arcs, &mut self.lengths, start, end, length)
-            .map_err(refused)?;
+            .put(&mut self.arcs, &mut self.lengths, start, end, length)?;
         Ok(())
     }
 }
@@ -130,7 +123,7 @@ fn solve(rt: &HostRuntime, network: Network, clock: bool) -> anyhow::Result<()> 
         arcs,
         lengths,
     } = network;
-    let order = Order::new(k, 1).map_err(refused)?;
+    let order = Order::new(k, 1)?;
     let mut values = vec![in rt.alloc(); Sum::null(); 20000]?;
     let mut counts = vec![in rt.alloc(); 0; 1000]?;
     let mut passes = 0;
@@ -138,7 +131,7 @@ fn solve(rt: &HostRuntime, network: Network, clock: bool) -> anyhow::Result<()> 
     for _ in 0..TURNS {
         let (settled, solved) = draft
             .solve(order, &arcs, &lengths, &mut values, &mut counts)
-            .map_err(|(_, why)| refused(why))?;
+            .map_err(|(_, why)| why)?;
         passes = solved.passes;
         draft = settled.reopen(&mut values, &mut counts);
     }
