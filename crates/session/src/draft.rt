@@ -101,6 +101,7 @@ impl Draft {
     fn mark(&self, arcs: &mut [Arc], arc: usize, open: bool) -> Result<(), Refusal>
         ensures { MarkDone self.now arcs.old arc «open» result arcs.new }
     {
+        // The test of `relength`, of the arc table: a method for both, with its contract, would be longer.
         if arc == 0 || arc > self.count || arc > arcs.len() {
             return Err(Refusal::NoSuchArc);
         }
