@@ -4,7 +4,7 @@ ghost use Rattle.netfile.specs.Records.{spelled, body_size, in_order, mark_of, f
 
 use super::{Kind, Reason, Stage};
 
-// What the two letters at a record's head say.
+// What the two letters at a record's head say: it is judged before there is a body, so it is an enum beside Record.
 #[derive(Clone, Copy, PartialEq, Eq, Debug)]
 pub enum Mark {
     Network,
