@@ -106,6 +106,7 @@ impl<M: Columns> Tables<M> {
             }
         };
         rt.println(trace_line(heap, target)?)?;
+        // counted by hand, since the number printed is told at the end
         let mut count = 0;
         while goes_on(count, most) && self.print_next(rt, &mut trace, source)? {
             count += 1;

@@ -27,7 +27,8 @@ impl fmt::Display for NoLength<'_> {
     }
 }
 
-// The length of a route from its line: the first word that is no leg ends it.
+// The length of a route from its line: the first word that is no leg ends it. Two results, since one is printed and the other ends
+// the run.
 fn read_route<M: Columns>(heap: Global, line: &str) -> Result<Result<M, NoLength<'_>>, AllocError> {
     let mut legs = Vec::new(heap);
     for word in line.split_whitespace() {
@@ -63,6 +64,7 @@ fn print_ranking<M: Columns>(rt: &HostRuntime, routes: &[Route<M>]) -> Result<()
     let heap = rt.alloc();
     rt.println("from first to last:")?;
     let mut place = 0;
+    // by number, since places are numbers and a route is compared with the one before it
     for (i, route) in routes.iter().enumerate() {
         let shown = column_text(heap, &route.length)?;
         if i > 0 && equally_long(&routes[i - 1], route) {

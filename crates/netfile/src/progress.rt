@@ -16,7 +16,7 @@ pub enum Stage {
     Over,
 }
 
-// What the records so far amount to: the network's nodes and kind, how many arcs, and where the last of them ends (0 for none).
+// What the records so far amount to: the network's nodes and kind, how many arcs, and where the last of them ends: 0, below every end, before the first.
 #[derive(Clone, Copy, PartialEq, Eq, Debug)]
 pub struct Progress {
     pub stage: Stage,

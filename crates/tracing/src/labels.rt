@@ -58,7 +58,7 @@ impl<M: Measure> Lent<'_, M> {
                 .is_some_and(|x| x.compare(&M::null()).is_eq())
     }
 
-    // The label that a step leads back to.
+    // The label that a step leads back to. A step of the caller's table may name no arc: then to node 0, which has no lengths.
     pub fn back(&self, step: Step) -> Label
         ensures { result ≡ lab self.now.arcs.now step }
     {

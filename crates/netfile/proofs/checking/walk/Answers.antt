@@ -12,7 +12,7 @@ loop-init c =
 pub returns-in_err-next : goal.returns-in_err-next
 returns-in_err-next c =
     let i = c.loop.invariant in
-    let f : Refuses c.args.limits c.args.file.now c.in_err-next.field-0.0 = rw (← i.file, ← i.limits) (refused c.loop.reader c.in_err-next.field-0.0 (rw (i.file, i.limits) c.if-file-limits.false) i.reached c.in_err-next.ensures) in
+    let f : Refuses c.args.limits c.args.file.now c.in_err-next.field-0.0 = rw (← i.file, ← i.limits) (refused c.loop.reader c.next.new.self c.in_err-next.field-0.0 (rw (i.file, i.limits) c.if-file-limits.false) i.reached c.in_err-next.ensures) in
     search rules
 
 past : (c : goal.In-Some) → Passed c.loop.reader c.in-Some.field-0 c.next.new.self
