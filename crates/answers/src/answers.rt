@@ -86,7 +86,7 @@ impl<M: Columns> Tables<M> {
     }
 
     // Prints the paths to the target of this body, as many as it asks for.
-    fn target(
+    fn trace(
         &mut self,
         rt: &HostRuntime,
         session: Session,
@@ -145,7 +145,7 @@ pub(crate) fn answer<M: Columns>(
                 }
             }
             Record::Query(body) => session = tables.query(rt, session, nodes, body)?,
-            Record::Target(body) => session = tables.target(rt, session, body)?,
+            Record::Target(body) => session = tables.trace(rt, session, body)?,
             Record::Network(_) | Record::End => {}
         }
     }
