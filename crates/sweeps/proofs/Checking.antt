@@ -1,14 +1,22 @@
 -- What looking at the arc tables keeps from arc to arc.
-use Rattle.std.proofs.Common.{zero, min, leb, true, false, take, length-take, ◌≡◌, ℕ, suc, ◌+◌, ◌<◌, ◌≤◌, List, length, get_or, set, sym, ap, ◌∙◌, subst, inl, inr, add-one, arith}
+use Rattle.std.proofs.Common.{Bool, Option, Some, None, Ordering, Less, Equal, Greater, refl, zero, min, leb, true, false, take, length-take, ◌≡◌, ℕ, suc, ◌+◌, ◌<◌, ◌≤◌, List, length, get_or, set, sym, ap, ◌∙◌, subst, inl, inr, add-one, arith}
 use Rattle.std.proofs.lemmas.List.{get_or-set_same, get_or-set_other, get_or-take, get_or_default}
 use Rattle.std.proofs.lemmas.Bool.{cases_eq, leb-true, leb-false, le-leb}
 use Rattle.std.specs.List.Sorted.{IsPartitionedBy, IsPartitionPoint}
+use Rattle.std.specs.Option.{option_eq}
 use Rattle.measure.specs.Algebra.{Algebra}
 use Rattle.walks.specs.Networks.{Network, ProperArc}
 use Rattle.sweeps.specs.declared.Arc.{Arc}
 use Rattle.sweeps.specs.Tables.{network, no_arc, arc_at, InOrder}
-use Rattle.sweeps.specs.Firsts.{over_arc, over_at}
+use Rattle.sweeps.specs.Firsts.{told, over_arc, over_at}
 use Rattle.sweeps.specs.Nodes.{FitsArc, Indexed}
+
+-- `==` with an order is a test of an order that may not be there
+pub told_by : (test : Ordering → Bool) (eq : Ordering → Ordering → Bool) (z : Ordering) → eq Less z ≡ test Less → eq Equal z ≡ test Equal → eq Greater z ≡ test Greater → (o : Option Ordering) → option_eq eq o (Some z) ≡ told test o
+told_by test eq z l e g None = refl
+told_by test eq z l e g (Some Less) = l
+told_by test eq z l e g (Some Equal) = e
+told_by test eq z l e g (Some Greater) = g
 
 module _ {V : Type 0} (m : Algebra V) (net : Network V) where
   -- the first a arcs are in order, and the last of them ends at `last`

@@ -15,11 +15,8 @@ left (suc r ∷ rs) = left rs
 abbrev pub rank_of : List ℕ → ℕ → ℕ
 rank_of ranks j = slice_index ranks (j - 1)
 
--- the first length at the arc's end comes over the arc
-abbrev pub is_tight : {V : Type 0} → Algebra V → ℕ → List V → List ℕ → Arc → V → Bool
-is_tight m k values counts arc x = told is_eq (over_arc m k values counts arc x)
-
 module _ {V : Type 0} (m : Algebra V) (net : Network V) (k : ℕ) (values : List V) (counts : List ℕ) where
+  -- the first length at the arc's end comes over the arc
   abbrev pub tight_at : ℕ → Bool
   tight_at a = told is_eq (over_at m net k values counts a)
 

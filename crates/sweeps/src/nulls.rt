@@ -7,6 +7,7 @@ ghost use Rattle.sweeps.specs.Inwards.{net_of};
 use super::firsts::Rows;
 use super::orders::MOST_NODES;
 use measure::Measure;
+use std::cmp::Ordering;
 
 impl<M: Measure> Rows<'_, M> {
     // Whether no tight arc leads to node j from a node that is not ranked.
@@ -17,7 +18,7 @@ impl<M: Measure> Rows<'_, M> {
     {
         let (arcs, lengths) = self.net.into_node(j);
         for (arc, x) in arcs.iter().zip(lengths) {
-            if ranks[arc.start as usize - 1] == 0 && self.tight(*arc, *x) {
+            if ranks[arc.start as usize - 1] == 0 && self.over(*arc, *x) == Some(Ordering::Equal) {
                 return false;
             }
         }
