@@ -3,8 +3,7 @@ use Rattle.std.specs.Prelude.{◌≡◌, ℕ, zero, suc, ◌+◌, ◌-◌, ◌<�
 use Rattle.std.specs.Ordering.{is_eq}
 use Rattle.measure.specs.Algebra.{Algebra}
 use Rattle.walks.specs.Networks.{Network}
-use Rattle.sweeps.specs.declared.Arc.{Arc}
-use Rattle.sweeps.specs.Firsts.{told, over_arc, over_at}
+use Rattle.sweeps.specs.Firsts.{told, over_at}
 
 -- how many are not ranked
 abbrev pub left : List ℕ → ℕ

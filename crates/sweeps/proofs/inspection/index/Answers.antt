@@ -1,4 +1,4 @@
-use Rattle.std.proofs.Common.{◌+◌, leb, arith, rules, length-set}
+use Rattle.std.proofs.Common.{◌+◌, leb, length-take, arith, rules}
 use Rattle.std.proofs.lemmas.List.Sorted.{IsPartitionPoint-from_clause}
 use Rattle.sweeps.specs.Tables.{network}
 use Rattle.sweeps.proofs.Checking.{parted, splits_of, indexing_more, indexing_all}
@@ -11,13 +11,9 @@ loop-j-preserved g c =
     let j = c.loop-j.j-counter in
     let point = IsPartitionPoint-from_clause (λ arc. leb arc.end j) _ _ c.partition_point.ensures.partitioned (parted m c.args.nodes c.args.arcs.now c.args.lengths.now c.min-total.result c.min-total.ensures j c.requires.ordered) (λ a r q k. search rules) in
     let split = splits_of m c.args.nodes c.args.arcs.now c.args.lengths.now c.min-total.result c.min-total.ensures j c.partition_point.result c.partition_point.ensures.bound point in
-    indexing_more net _ _ _ c.loop-j.invariant (omega (arith, c.requires.room)) split
+    indexing_more net _ _ _ c.loop-j.invariant (omega (arith, c.loop-j-test.true)) split
 
-pub returns-2 : goal.returns-2
-returns-2 g c =
-    let m = g.M.Measure.algebra in
-    let net = network m c.args.nodes c.args.arcs.now c.args.lengths.now in
-    let j = c.loop-j.j-counter in
-    let point = IsPartitionPoint-from_clause (λ arc. leb arc.end j) _ _ c.partition_point.ensures.partitioned (parted m c.args.nodes c.args.arcs.now c.args.lengths.now c.min-total.result c.min-total.ensures j c.requires.ordered) (λ a r q k. search rules) in
-    let split = splits_of m c.args.nodes c.args.arcs.now c.args.lengths.now c.min-total.result c.min-total.ensures j c.partition_point.result c.partition_point.ensures.bound point in
-    indexing_all net _ (j + 1) (omega arith) (omega (arith, c.requires.room, length-set c.loop-j.first j c.partition_point.result)) (indexing_more net _ _ _ c.loop-j.invariant (omega (arith, c.requires.room)) split)
+pub returns : goal.returns
+returns g c =
+    let size = length-take (c.args.nodes + 1) c.args.first.now in
+    indexing_all _ _ _ c.loop-j.j-counter (omega (arith, size, c.loop-j.auto.cell-items, c.requires.room)) (omega (arith, c.loop-j.auto.cell-items, c.loop-j-test.false)) c.loop-j.invariant
