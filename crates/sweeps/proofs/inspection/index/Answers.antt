@@ -12,8 +12,3 @@ loop-j-preserved g c =
     let point = IsPartitionPoint-from_clause (λ arc. leb arc.end j) _ _ c.partition_point.ensures.partitioned (parted m c.args.nodes c.args.arcs.now c.args.lengths.now c.min-total.result c.min-total.ensures j c.requires.ordered) (λ a r q k. search rules) in
     let split = splits_of m c.args.nodes c.args.arcs.now c.args.lengths.now c.min-total.result c.min-total.ensures j c.partition_point.result c.partition_point.ensures.bound point in
     indexing_more net _ _ _ c.loop-j.invariant (omega (arith, c.loop-j-test.true)) split
-
-pub returns : goal.returns
-returns g c =
-    let size = length-take (c.args.nodes + 1) c.args.first.now in
-    indexing_all _ _ _ c.loop-j.j-counter (omega (arith, size, c.loop-j.auto.cell-items, c.requires.room)) (omega (arith, c.loop-j.auto.cell-items, c.loop-j-test.false)) c.loop-j.invariant

@@ -45,7 +45,3 @@ loop-arc-preserved g c = λ a low high.
           (sym (c.eq.ensures ∙ told_by is_lt _ Less refl refl refl _ ∙ ap (told is_lt) (c.over.ensures ∙ over_read m net.nodes net.arcs.now net.lengths.now n _ _ arc_is x_is rows.k rows.values.now rows.counts.now)) ∙ c.if-eq.false)
       | inr ne ↦ c.loop-arc.invariant a low (omega (arith, length_push c.loop-arc.yielded (c.in-Some.arc, c.in-Some.x)))
     ]
-
-pub returns : goal.returns
-returns g c = λ a low high.
-    c.loop-arc.invariant a low (omega (arith, sides_end c.into_iter-arc-iterator.ensures.into_iter_gives c.zip-arc-items.ensures.first c.iter.ensures.rest c.zip-arc-items.ensures.second.0 c.loop-arc.yielded c.loop-arc.arc-iterator c.next.new.self c.loop-arc.yielded_by c.in-None.is c.next.ensures.steps))
