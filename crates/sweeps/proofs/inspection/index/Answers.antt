@@ -1,7 +1,7 @@
-use Rattle.std.proofs.Common.{◌+◌, leb, length-take, arith, rules}
+use Rattle.std.proofs.Common.{leb, arith, rules}
 use Rattle.std.proofs.lemmas.List.Sorted.{IsPartitionPoint-from_clause}
 use Rattle.sweeps.specs.Tables.{network}
-use Rattle.sweeps.proofs.Checking.{parted, splits_of, indexing_more, indexing_all}
+use Rattle.sweeps.proofs.Checking.{parted, splits_of, indexing_more}
 use Rattle.sweeps.proofs.inspection.index.Goals as goal
 
 pub loop-j-preserved : goal.loop-j-preserved

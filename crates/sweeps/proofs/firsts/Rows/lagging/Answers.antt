@@ -5,7 +5,7 @@ use Rattle.std.specs.Ordering.{is_lt}
 use Rattle.sweeps.specs.Tables.{no_arc}
 use Rattle.sweeps.specs.Inwards.{net_of}
 use Rattle.sweeps.specs.Firsts.{told, over_at}
-use Rattle.sweeps.proofs.Sides.{sides_turn, sides_end}
+use Rattle.sweeps.proofs.Sides.{sides_turn}
 use Rattle.sweeps.proofs.Checking.{proper_fits, over_read, told_by}
 use Rattle.sweeps.proofs.firsts.Rows.lagging.Goals as goal
 
