@@ -1,6 +1,6 @@
 -- What looking at the arc tables keeps from arc to arc.
-use Rattle.std.proofs.Common.{Bool, Option, Some, None, Ordering, Less, Equal, Greater, refl, zero, min, leb, true, false, take, length-take, ◌≡◌, ℕ, suc, ◌+◌, ◌<◌, ◌≤◌, List, length, get_or, set, sym, ap, ◌∙◌, ◌++◌, length-append, subst, inl, inr, add-one, arith}
-use Rattle.std.proofs.lemmas.List.{get_or_append_left, get_or-set_same, get_or-set_other, get_or-take, get_or_default}
+use Rattle.std.proofs.Common.{Bool, Option, Some, None, Ordering, Less, Equal, Greater, refl, zero, min, leb, true, false, take, length-take, ◌≡◌, ℕ, suc, ◌+◌, ◌<◌, ◌≤◌, List, length, get_or, set, sym, ap, ◌∙◌, subst, inl, inr, add-one, arith}
+use Rattle.std.proofs.lemmas.List.{get_or-set_same, get_or-set_other, get_or-take, get_or_default}
 use Rattle.std.proofs.lemmas.Bool.{cases_eq, leb-true, leb-false, le-leb}
 use Rattle.std.specs.List.Sorted.{IsPartitionedBy, IsPartitionPoint}
 use Rattle.std.specs.Option.{option_eq}
@@ -9,7 +9,7 @@ use Rattle.walks.specs.Networks.{Network, ProperArc}
 use Rattle.sweeps.specs.declared.Arc.{Arc}
 use Rattle.sweeps.specs.Tables.{network, no_arc, arc_at, InOrder}
 use Rattle.sweeps.specs.Firsts.{told, over_arc, over_at}
-use Rattle.sweeps.specs.Nodes.{FitsArc, Indexed}
+use Rattle.sweeps.specs.Nodes.{FitsArc}
 
 -- `==` with an order is a test of an order that may not be there
 pub told_by : (test : Ordering → Bool) (eq : Ordering → Ordering → Bool) (z : Ordering) → eq Less z ≡ test Less → eq Equal z ≡ test Equal → eq Greater z ≡ test Greater → (o : Option Ordering) → option_eq eq o (Some z) ≡ told test o
@@ -80,16 +80,6 @@ module _ {V : Type 0} (net : Network V) where
     | inl e ↦ subst (λ z. Splits (get_or (set first j below) z 0) z) (sym e) (subst (λ z. Splits z j) (sym (get_or-set_same first j below 0 lt)) s)
     | inr ne ↦ subst (λ z. Splits z i) (sym (get_or-set_other first j i below 0 ne)) (h i (omega arith))
   ]
-
-  pub indexing_all : (cells rest : List ℕ) (j : ℕ) → length cells ≡ suc net.nodes → length cells ≤ j → Indexing cells j → Indexed net (cells ++ rest)
-  indexing_all cells rest j size all h =
-      let split : (i : ℕ) → i ≤ net.nodes → Splits (get_or (cells ++ rest) i 0) i = λ i le. subst (λ z. Splits z i) (sym (get_or_append_left cells rest 0 i (omega (arith, size)))) (h i (omega (arith, size))) in
-      record {
-        room = omega (arith, size, length-append cells rest);
-        few = λ i le. (split i le).few;
-        below = λ i a le. (split i le).under a;
-        above = λ i a le. (split i le).above a;
-      }
 
 module _ {V : Type 0} (m : Algebra V) (n : ℕ) (arcs : List Arc) (lengths : List V) (total : ℕ) (total_is : total ≡ min (length arcs) (length lengths)) (j : ℕ) where
   arc_is : (i : ℕ) (d : Arc) → i < total → get_or (take total arcs) i d ≡ get_or arcs i no_arc
