@@ -42,7 +42,7 @@ pub fn index<M: Measure>(nodes: usize, arcs: &[Arc], lengths: &[M], first: &mut 
     ensures { Indexed (network M.Measure.algebra nodes arcs.now lengths.now) first.new }
 {
     let total = arcs.len().min(lengths.len());
-    for j in 0..=nodes {
-        first[j] = arcs[..total].partition_point(|arc| arc.end as usize <= j);
+    for (j, cell) in first[..=nodes].iter_mut().enumerate() {
+        *cell = arcs[..total].partition_point(|arc| arc.end as usize <= j);
     }
 }
