@@ -10,7 +10,7 @@ use measure::Measure;
 use session::{Arc, Draft, Step};
 
 // Writes x into a cell. A function of its own: at cells of `Option<Answer<M>>` it stays open that a cell's place fits, and of cells
-// written through `iter_mut` nothing is known afterwards.
+// zipped by `iter_mut` nothing is known afterwards.
 fn store<T: Copy>(cells: &mut [T], i: usize, x: T)
     requires { i < length cells.old }
     ensures { cells.new ≡ slice_set cells.old i x }
