@@ -10,6 +10,7 @@ pub fn column_text<M: Columns>(heap: Global, value: &M) -> Result<String, AllocE
     ensures { M.Columns.columnar.width < 2 ^ 64 → IfOk result (λ t. string_bytes t ≡ row_text (M.Columns.columnar.tell value.now)) }
 {
     let mut text = String::new(heap);
+    // by number, as a value tells its columns
     for i in 0..M::width() {
         if i > 0 {
             text.push('/')?;

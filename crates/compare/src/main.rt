@@ -45,8 +45,7 @@ fn measured<M: Columns>(rt: &HostRuntime, text: &str) -> Result<Vec<Route<M>>, F
     let heap = rt.alloc();
     let mut routes = Vec::new(heap);
     let lines = text.lines().skip(1).filter(|line| !line.trim().is_empty());
-    for (i, line) in lines.enumerate() {
-        let number = i + 1;
+    for (number, line) in (1usize..).zip(lines) {
         match read_route(heap, line)? {
             Ok(length) => {
                 let shown = column_text(heap, &length)?;

@@ -166,6 +166,7 @@ pub fn perform<M: Measure>(
 ) -> (Stage, Option<Answer<M>>)
     ensures { Went M.Measure.algebra stage (tables arcs.old lengths.old values.old counts.old work.old path.old) call result.0 result.1 (tables arcs.new lengths.new values.new counts.new work.new path.new) }
 {
+    // a match, since the stages are types of their own
     match stage {
         Stage::Drafting(draft) => on_draft(draft, call, arcs, lengths, values, counts),
         Stage::Resting(settled) => on_settled(settled, call, values, counts, work, path),

@@ -35,7 +35,8 @@ pub struct Limits {
 }
 
 impl Progress {
-    // Before the first record.
+    // Before the first record. Nothing reads the nodes and the kind before a network record: with options each later record would ask
+    // whether they are there.
     pub fn start() -> Progress
         ensures { result ≡ start_of_file }
     {

@@ -65,6 +65,7 @@ impl Mark {
 }
 
 impl<'a> Record<'a> {
+    // The mark that the record was read by. A method, since no derive turns the variants of one enum into those of another.
     pub fn mark(self) -> Mark
         ensures { result ≡ mark_of self.entry }
     {

@@ -14,7 +14,7 @@ const GOOD: &[u8] =
 // Where the records of that file start.
 const STARTS: [usize; 8] = [0, 5, 15, 25, 35, 40, 46, 51];
 
-// The number and the byte of a fault, if the file has one.
+// The number and the byte of a fault, as a refused file is reported, if the file has one.
 fn judged(file: &[u8], limits: Limits) -> Option<(u8, usize)> {
     let fault = check(file, limits).err()?;
     Some((fault.reason.number(), fault.at))

@@ -25,7 +25,7 @@ fn call_text<M: Columns>(heap: Global, call: &Call<M>) -> Result<String, AllocEr
     }
 }
 
-// An answer in words.
+// An answer in words; no `Display`, as for calls.
 fn answer_text<M: Columns>(heap: Global, answer: &Answer<M>) -> Result<String, AllocError> {
     match answer {
         Answer::Refused(why) => format!(in heap; "refused {}", why.number()),

@@ -1,4 +1,4 @@
-// What is printed in place of an answer.
+// What is printed in place of an answer. Reasons come as numbers: those of files and of sessions are types of other crates.
 ghost use Rattle.std.specs.Prelude.{◌≡◌, ◌++◌, IfOk, string_bytes, codes, decimal};
 
 use std::alloc::{AllocError, Global};

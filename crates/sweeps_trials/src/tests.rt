@@ -4,7 +4,7 @@ use measure::Sum;
 use std::test::Fail;
 use sweeps::{Arc, Order, Refusal, Solved, solve};
 
-// An open arc.
+// An open arc. It and the small network below stand in the tests of tracing too: a crate for both would be longer.
 fn arc(start: u32, end: u32) -> Arc
     ensures { result ≡ record { start = start; end = end; «open» = true } }
 {

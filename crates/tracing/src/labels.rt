@@ -16,7 +16,7 @@ pub struct Label {
 }
 
 impl<M: Measure> Lent<'_, M> {
-    // The length at a label.
+    // The length at a label: a session's own length counts places from 1 and refuses what is none.
     pub fn value(&self, label: Label) -> Option<M>
         ensures { Valued M.Measure.algebra (read self.now) label result }
     {

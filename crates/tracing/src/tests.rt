@@ -13,7 +13,7 @@ fn arc(start: u32, end: u32) -> Arc {
     }
 }
 
-// Four nodes and six arcs, sorted by their ends.
+// Four nodes and six arcs, sorted by their ends, as in sweeps_trials.
 fn arcs() -> [Arc; 6] {
     [
         arc(3, 2),

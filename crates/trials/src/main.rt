@@ -40,6 +40,7 @@ fn compare_kind<M: Columns>(rt: &HostRuntime, kind: Kind) -> anyhow::Result<Tall
 }
 
 fn main(rt: HostRuntime) -> anyhow::Result<()> {
+    // a call for each kind, since each is a type of its own
     let sums = compare_kind::<Sum>(&rt, Kind::Sum)?;
     let reversed = compare_kind::<Reversed<Sum>>(&rt, Kind::ReversedSum)?;
     let pairs = compare_kind::<Then<Sum, Sum>>(&rt, Kind::SumThenSum)?;
