@@ -8,7 +8,7 @@ use Rattle.std.specs.Result.{result_unwrap_or}
 use Rattle.measure.specs.Algebra.{Algebra}
 use Rattle.walks.specs.Rows.{Table}
 use Rattle.sweeps.specs.declared.refusal.Refusal.{Refusal}
-use Rattle.session.specs.Settled.{Decided, length_verdict, length_answer}
+use Rattle.session.specs.Settled.{length_answer}
 
 -- the front of a row is read
 abbrev pub Front : {V : Type 0} → List V → List V → Type 0
@@ -29,7 +29,3 @@ slice_get-take (x ∷ xs) (suc n) (suc i) h = slice_get-take xs n i (omega arith
 -- the length at a place, none where the call is refused
 pub told : {V : Type 0} (m : Algebra V) (n k : ℕ) (t : Table V) (node i j : ℕ) (r : Result (Option V) Refusal) (o : Option V) → 1 ≤ node → node ≤ n → i ≡ j → r ≡ length_answer m n k t node (i + 1) → o ≡ result_unwrap_or r None → slice_get (take k (t node)) j ≡ o
 told {V} m n k t node i j r o low high same e f = grind (arith, nat_tests, slice_get-take {V = V}, slice_get_past {X = V}, length-take {A = V})
-
--- a length is told at the row's k places only
-pub below : {V : Type 0} (n k node i : ℕ) (r : Result (Option V) Refusal) (x : V) → Decided (length_verdict n k node (i + 1)) r → result_unwrap_or r None ≡ Some x → i < k
-below n k node i r x d e = grind (arith, nat_tests)

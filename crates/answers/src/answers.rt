@@ -1,4 +1,6 @@
 // What each record of a file does and prints.
+ghost use Rattle.std.specs.Prelude.{◌≤◌, IfSome, vec_len};
+
 use super::LIMITS;
 use super::paths::path_nodes;
 use super::sessions::Session;
@@ -62,6 +64,20 @@ impl<M: Columns> Tables<M> {
         }
     }
 
+    // The next path of a trace: how many arcs it has in the path table, and its length.
+    fn next(&mut self, trace: &mut Trace) -> Option<(usize, M)>
+        ensures { IfSome result (λ found. found.0 ≤ vec_len self.new.path) }
+    {
+        trace.next(
+            &self.arcs,
+            &self.lengths,
+            &self.values,
+            &self.counts,
+            &mut self.work,
+            &mut self.path,
+        )
+    }
+
     // Prints the next path of a trace, and answers whether there was one.
     fn print_next(
         &mut self,
@@ -70,14 +86,7 @@ impl<M: Columns> Tables<M> {
         source: usize,
     ) -> Result<bool, Failure> {
         let heap = rt.alloc();
-        let Some((size, length)) = trace.next(
-            &self.arcs,
-            &self.lengths,
-            &self.values,
-            &self.counts,
-            &mut self.work,
-            &mut self.path,
-        ) else {
+        let Some((size, length)) = self.next(trace) else {
             return Ok(false);
         };
         let nodes = path_nodes(heap, source, &self.arcs, &self.path[0..size])?;
@@ -106,18 +115,12 @@ impl<M: Columns> Tables<M> {
             }
         };
         rt.println(trace_line(heap, target)?)?;
+        // counted by hand, since the number printed is told at the end
         let mut count = 0;
         while goes_on(count, most) && self.print_next(rt, &mut trace, source)? {
             count += 1;
         }
-        let left = trace.next(
-            &self.arcs,
-            &self.lengths,
-            &self.values,
-            &self.counts,
-            &mut self.work,
-            &mut self.path,
-        );
+        let left = self.next(&mut trace);
         rt.println(end_line(heap, count, left.is_some())?)?;
         Ok(Session::Solved(trace.finish(), source))
     }

@@ -1,7 +1,6 @@
 // The answers to a network file: its check, and for each of its queries the solve and the traces, printed.
 #![tactic(auto)]
 
-use failure::Failure;
 use measure::{Reversed, Sum, Then};
 use netfile::{Kind, Limits, check};
 use report::file_refused_line;
@@ -12,6 +11,7 @@ mod sessions;
 mod tables;
 
 use answers::answer;
+pub use failure::Failure;
 
 // The largest file, the most nodes, and the cells of the arc table.
 pub const LIMITS: Limits = Limits {
@@ -20,8 +20,8 @@ pub const LIMITS: Limits = Limits {
     arcs: 1000,
 };
 
-// Checks a file whole, and then prints the answers to its queries; or prints why it is refused. (Each kind's arm names a type: a
-// visitor over the kinds would be a trait and a struct besides.)
+// Checks a file whole, and then prints the answers to its queries; or prints why it is refused. Each arm names a type: a visitor
+// over the kinds would need a trait, and a struct at each place that asks for one.
 pub fn answer_file(rt: &HostRuntime, file: &[u8]) -> Result<(), Failure> {
     match check(file, LIMITS) {
         Ok(end) => match end.kind {

@@ -5,7 +5,7 @@ use session::Arc;
 use std::alloc::{AllocError, Global};
 use std::iter;
 
-// The node that an arc leads to, by the arc's number; 0 where there is none.
+// The node that an arc leads to, by the arc's number; where there is no such arc 0, which is no node, so that a path keeps its size.
 fn arc_end(arcs: &[Arc], number: usize) -> usize
     ensures { result ≡ end_of arcs.now number }
 {

@@ -51,6 +51,7 @@ impl<M: Columns> Tables<M> {
     ) -> Result<Vec<M>, AllocError>
         ensures { (net : Net M) (k s : ℕ) (t : Table M) (arcs : List Arc) (lengths : List M) → SettledHolds M.Measure.algebra net k s t settled.now arcs lengths self.now.values.items self.now.counts.items → 1 ≤ node → node ≤ net.nodes → IfOk result (λ v. v.items ≡ take k (t node)) }
     {
+        // place after place: the next is one past the row so far
         let mut row = Vec::new(heap);
         while let Some(length) = settled
             .length(&self.values, &self.counts, node, row.len() + 1)

@@ -6,7 +6,7 @@ use std::str::FromStr;
 // The kinds of lengths that files and lists name.
 #[derive(Clone, Copy, PartialEq, Eq, Debug)]
 pub enum Kind {
-    Sum,
+    Sum = 1,
     ReversedSum,
     SumThenSum,
     SumThenReversed,

@@ -27,7 +27,8 @@ impl fmt::Display for NoLength<'_> {
     }
 }
 
-// The length of a route from its line: the first word that is no leg ends it.
+// The length of a route from its line: the first word that is no leg ends it. Two results, since one is printed and the other ends
+// the run.
 fn read_route<M: Columns>(heap: Global, line: &str) -> Result<Result<M, NoLength<'_>>, AllocError> {
     let mut legs = Vec::new(heap);
     for word in line.split_whitespace() {
@@ -44,8 +45,7 @@ fn measured<M: Columns>(rt: &HostRuntime, text: &str) -> Result<Vec<Route<M>>, F
     let heap = rt.alloc();
     let mut routes = Vec::new(heap);
     let lines = text.lines().skip(1).filter(|line| !line.trim().is_empty());
-    for (i, line) in lines.enumerate() {
-        let number = i + 1;
+    for (number, line) in (1usize..).zip(lines) {
         match read_route(heap, line)? {
             Ok(length) => {
                 let shown = column_text(heap, &length)?;
@@ -63,6 +63,7 @@ fn print_ranking<M: Columns>(rt: &HostRuntime, routes: &[Route<M>]) -> Result<()
     let heap = rt.alloc();
     rt.println("from first to last:")?;
     let mut place = 0;
+    // by number, since places are numbers and a route is compared with the one before it
     for (i, route) in routes.iter().enumerate() {
         let shown = column_text(heap, &route.length)?;
         if i > 0 && equally_long(&routes[i - 1], route) {

@@ -42,7 +42,8 @@ fn print_rows(
     Ok(())
 }
 
-// Solves the draft, prints what came of it and gives the draft back.
+// Solves the draft, prints what came of it and gives the draft back. Two formats of the crate report stand here in place of a
+// dependency; the tables are slices, since a struct would need the number of arcs as a parameter of each function.
 fn show(
     rt: &HostRuntime,
     draft: Draft,

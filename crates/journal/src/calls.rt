@@ -56,11 +56,12 @@ pub enum Answer<M> {
     Value(Option<M>),
     // how many arcs the path has, and its length
     Path { count: usize, length: M },
+    // no path is left: an answer of its own in a log
     NoPath,
 }
 
 impl<M: Measure> Call<M> {
-    // How many lengths each row of a solve keeps at most; 0 for the other calls.
+    // How many lengths each row of a solve keeps at most; 0 for the other calls, which leave no rows.
     pub(crate) fn width(self) -> usize
         ensures is { result ≡ width self }
         ensures small { result ≤ 20 }

@@ -7,11 +7,10 @@ use super::{Answer, Call, Stage};
 use measure::Measure;
 use session::{Arc, Draft, Order, Refusal, Settled, Solved, Step, Trace};
 
-// Each table is a parameter of its own: with the slices in a struct, a call that is lent several of its fields is not covered by
-// the check, and each function would need a clause per field that it holds the same slice.
+// Each table is a parameter of its own. With the slices in a struct, a call to which several of its fields are lent gets no proof,
+// and each function would owe a clause for each field that it still holds the same slice.
 
-// The answer to a call: that it is refused, or `answer` of what it gave. A constructor is passed in a closure where nothing that it
-// takes names M, since the check does not cover its bare name there.
+// The answer to a call: that it is refused, or `answer` of what it gave.
 fn told<T, M: Measure, F: FnOnce(T) -> Answer<M>>(given: Result<T, Refusal>, answer: F) -> Answer<M>
     requires { ForOk given (F.pre answer) }
     ensures { MatchResult given (λ x. F.post answer x result) (λ why. result ≡ Answer.Refused why) }
@@ -167,6 +166,7 @@ pub fn perform<M: Measure>(
 ) -> (Stage, Option<Answer<M>>)
     ensures { Went M.Measure.algebra stage (tables arcs.old lengths.old values.old counts.old work.old path.old) call result.0 result.1 (tables arcs.new lengths.new values.new counts.new work.new path.new) }
 {
+    // a match, since the stages are types of their own
     match stage {
         Stage::Drafting(draft) => on_draft(draft, call, arcs, lengths, values, counts),
         Stage::Resting(settled) => on_settled(settled, call, values, counts, work, path),

@@ -12,7 +12,7 @@ use session::{Arc, Draft, Step};
 use std::alloc::{AllocError, Global};
 
 // An entry of a log: a call, its answer, the cells of the rows that an accepted solve left, with their counts, and the arcs of the
-// path that a next handed out.
+// path that a next handed out. Cells with their counts beside, as the tables have them.
 #[derive(Drop)]
 pub struct Entry<M> {
     pub call: Call<M>,

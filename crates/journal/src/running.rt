@@ -9,8 +9,8 @@ use super::{Answer, Call, Stage};
 use measure::Measure;
 use session::{Arc, Draft, Step};
 
-// Writes x into a cell. Its own function, since at `Option<Answer<M>>` it is not proved that the cell's place fits, and with
-// `iter_mut().zip(calls)` nothing is known of the cells afterwards.
+// Writes x into a cell. A function of its own: at cells of `Option<Answer<M>>` it stays open that a cell's place fits, and of cells
+// zipped by `iter_mut` nothing is known afterwards.
 fn store<T: Copy>(cells: &mut [T], i: usize, x: T)
     requires { i < length cells.old }
     ensures { cells.new ≡ slice_set cells.old i x }
@@ -38,6 +38,7 @@ pub fn run<M: Measure>(
     if answers.len() < calls.len() {
         return Err(Fault::ShortAnswers);
     }
+    // as in `replay`, whose answers go onto the heap; what both keep is one set of lemmas
     let mut stage = Stage::Drafting(draft);
     for (i, call) in calls.iter().enumerate() {
         let (next, answer) = perform(stage, *call, arcs, lengths, values, counts, work, path);

@@ -88,11 +88,3 @@ passed r r' item come h =
     let next : advanced r.limits r.progress m (body_at m r.progress.kind (drop r.at r.file.now)) ≡ Ok r'.progress = ap (advanced r.limits r.progress m) (sym h.taken.is.body) ∙ h.taken.next in
     let more : Come r.limits r.file.now (r.at + (2 + body_size m r.progress.kind)) r'.progress = come_more r.limits r.file.now r.at r.progress come m r'.progress h.taken.is.mark next in
     rw (h.at, h.same.file, h.same.limits) more
-
-pub refused : (r : Reader) (f : Fault) → length r.file.now ≤ r.limits.bytes → Reached r → Refused r f → Refuses r.limits r.file.now f
-refused r f small come h =
-    subst (λ at. Refuses r.limits r.file.now (record { reason = f.reason; at = at })) (sym h.at) (breaks r.limits r.file.now r.at r.progress f.reason small come h.stops)
-
-pub ended : (r r' : Reader) → length r.file.now ≤ r.limits.bytes → Reached r → Ended r r' → (es : List Entry) × Accepts r.limits r.file.now es r'.progress
-ended r r' small come h =
-    subst (λ p. (es : List Entry) × Accepts r.limits r.file.now es p) (sym h.progress) (accepts r.limits r.file.now r.at r.progress small come (omega (arith, h.at)) h.over)

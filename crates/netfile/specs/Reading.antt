@@ -19,19 +19,26 @@ pub record Passed (r : Reader) (item : Record) (r' : Reader) : Type 0 where
   pub taken : Taken r.limits r.progress (drop r.at r.file.now) item r'.progress
   pub at : r'.at ≡ r.at + (2 + body_size (mark_of item) r.progress.kind)
 
+-- the reader is where it was
+pub record Stays (r r' : Reader) : Type 0 where
+  pub same : SameFile r r'
+  pub at : r'.at ≡ r.at
+  pub progress : r'.progress ≡ r.progress
+
 -- no byte is left behind an end record
 pub record Ended (r r' : Reader) : Type 0 where
   pub over : r.progress.stage ≡ Over
   pub at : r.at ≡ length r.file.now
-  pub progress : r'.progress ≡ r.progress
+  pub stays : Stays r r'
 
 -- what stands where the reader was is refused
-pub record Refused (r : Reader) (f : Fault) : Type 0 where
+pub record Refused (r : Reader) (f : Fault) (r' : Reader) : Type 0 where
   pub at : f.at ≡ r.at
   pub stops : Stops r.limits r.progress.stage r.progress (drop r.at r.file.now) f.reason
+  pub stays : Stays r r'
 
 -- an answer of the reader, and how it left itself
 abbrev pub Told : Reader → Result (Option Record) Fault → Reader → Type 0
 Told r (Ok (Some item)) r' = Passed r item r'
 Told r (Ok None) r' = Ended r r'
-Told r (Err f) r' = Refused r f
+Told r (Err f) r' = Refused r f r'

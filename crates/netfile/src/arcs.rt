@@ -7,8 +7,8 @@ use columns::Columns;
 use session::MOST_ARCS;
 use sweeps::{LONGEST, Refusal};
 
-// Refuses the arc of this body if a session with tables of so many cells would not take it. (Its tests are
-// those of a session's put, which stand there over the session's own state and tables.)
+// Refuses the arc of this body if a session with tables of so many cells would not take it. The tests are those of a session's
+// put, by one definition: a function for both would take eight numbers.
 pub fn arc_refusal<M: Columns>(progress: Progress, cells: usize, body: &[u8]) -> Result<(), Refusal>
     ensures verdict { let verdict = put_judged M.Measure.algebra M.Columns.columnar progress cells body.now in MatchResult result (λ _. verdict ≡ None) (λ why. verdict ≡ Some why) }
     ensures room { OnOk result (progress.count < 10000) }

@@ -14,6 +14,7 @@ pub fn check(file: &[u8], limits: Limits) -> Result<Progress, Fault>
     walk(file, limits)
 }
 
+// Its own function, since each of its returns would owe the two further clauses of `check`.
 fn walk(file: &[u8], limits: Limits) -> Result<Progress, Fault>
     ensures { MatchResult result (λ last. (es : List Entry) × Accepts limits file.now es last) (λ f. Refuses limits file.now f) }
 {

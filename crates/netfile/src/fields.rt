@@ -10,7 +10,7 @@ fn byte_at(body: &[u8], at: usize) -> u8
     body.get(at).copied().unwrap_or(0)
 }
 
-// Two bytes. (Bytes by a const parameter N, for this and the next, would need a contract and a proof where these need none.)
+// Two bytes. For this and the next, bytes by a const parameter were tried: what they return stayed open.
 fn pair_at(body: &[u8], at: usize) -> usize
     requires { at ≤ 1000 }
     ensures { result ≡ pair body.now at }
@@ -31,9 +31,8 @@ fn word_at(body: &[u8], at: usize) -> i64
     ]))
 }
 
-// The fields are tuples that each reader takes apart by name: structs for them would only be longer.
-
-// The nodes and the number of the kind in a network record.
+// The nodes and the number of the kind in a network record. As below, a pair that is taken apart by name where it is read: a struct
+// for each would be longer.
 pub fn network_fields(body: &[u8]) -> (usize, u8)
     ensures nodes { result.0 ≡ pair body.now 0 }
     ensures kind { result.1 ≡ slice_index body.now 2 }
@@ -68,7 +67,7 @@ pub fn query_fields(body: &[u8]) -> (usize, usize)
     (usize::from(byte_at(body, 0)), pair_at(body, 1))
 }
 
-// The target and the most paths of a target record. (They stand where an arc's ends do: one more function for both is longer.)
+// The target and the most paths of a target record. They stand where an arc's ends do: a function for both would be longer.
 pub fn target_fields(body: &[u8]) -> (usize, usize)
     ensures target { result.0 ≡ pair body.now 0 }
     ensures most { result.1 ≡ pair body.now 2 }

@@ -16,7 +16,7 @@ pub enum Stage {
     Over,
 }
 
-// What the records so far amount to: the network's nodes and kind, how many arcs, and where the last of them ends (0 for none).
+// What the records so far amount to: the network's nodes and kind, how many arcs, and where the last of them ends: 0, below every end, before the first.
 #[derive(Clone, Copy, PartialEq, Eq, Debug)]
 pub struct Progress {
     pub stage: Stage,
@@ -35,7 +35,8 @@ pub struct Limits {
 }
 
 impl Progress {
-    // Before the first record.
+    // Before the first record. Nothing reads the nodes and the kind before a network record: with options each later record would ask
+    // whether they are there.
     pub fn start() -> Progress
         ensures { result ≡ start_of_file }
     {

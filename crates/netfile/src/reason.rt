@@ -23,7 +23,7 @@ pub enum Reason {
 }
 
 impl Reason {
-    // The number that the reason is known by.
+    // The number that the reason is known by. By hand, since a reason may hold a refusal, so its variants bear no numbers.
     pub fn number(self) -> u8
         ensures { result ≡ reason_number self }
     {

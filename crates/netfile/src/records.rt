@@ -4,7 +4,7 @@ ghost use Rattle.netfile.specs.Records.{spelled, body_size, in_order, mark_of, f
 
 use super::{Kind, Reason, Stage};
 
-// What the two letters at a record's head say: it is judged before there is a body, so it is an enum beside Record.
+// What the two letters at a record's head say. An enum beside `Record`, since a mark is judged before there is a body to borrow.
 #[derive(Clone, Copy, PartialEq, Eq, Debug)]
 pub enum Mark {
     Network,
@@ -25,7 +25,7 @@ pub enum Record<'a> {
 }
 
 impl Mark {
-    // The mark that two letters spell, if they do.
+    // The mark that two letters spell, if they do; no `TryFrom`, since there is no more to say where they spell none.
     fn spelled(first: u8, second: u8) -> Option<Mark>
         ensures { result ≡ spelled first second }
     {
@@ -65,6 +65,7 @@ impl Mark {
 }
 
 impl<'a> Record<'a> {
+    // The mark that the record was read by. A method, since no derive turns the variants of one enum into those of another.
     pub fn mark(self) -> Mark
         ensures { result ≡ mark_of self.entry }
     {

@@ -10,8 +10,8 @@ use super::{Kind, Limits, Progress, Reason, Record, Stage};
 use measure::{Reversed, Sum, Then};
 use sweeps::{MOST_NODES, Order, Refusal};
 
-// Refuses an arc by the measure of the file's kind. (Each arm names a type: a visitor would need a trait, and a struct here and
-// in each other crate that asks for the measure of a kind.)
+// Refuses an arc by the measure of the file's kind. Each arm names a type: a visitor over the kinds would need a trait, and a struct
+// at each place that asks for one.
 fn refusal_by_kind(progress: Progress, cells: usize, body: &[u8]) -> Result<(), Refusal>
     ensures verdict { let verdict = arc_judged progress.kind progress cells body.now in MatchResult result (λ _. verdict ≡ None) (λ why. verdict ≡ Some why) }
     ensures room { OnOk result (progress.count < 10000) }

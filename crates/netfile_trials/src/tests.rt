@@ -14,12 +14,10 @@ const GOOD: &[u8] =
 // Where the records of that file start.
 const STARTS: [usize; 8] = [0, 5, 15, 25, 35, 40, 46, 51];
 
-// The number and the byte of a fault, or zeros for a file without one.
-fn judged(file: &[u8], limits: Limits) -> (u8, usize) {
-    match check(file, limits) {
-        Ok(_) => (0, 0),
-        Err(fault) => (fault.reason.number(), fault.at),
-    }
+// The number and the byte of a fault, as a refused file is reported, if the file has one.
+fn judged(file: &[u8], limits: Limits) -> Option<(u8, usize)> {
+    let fault = check(file, limits).err()?;
+    Some((fault.reason.number(), fault.at))
 }
 
 #[test]
@@ -39,39 +37,48 @@ fn cut_files_are_refused(rt: HostRuntime) {
             .filter(|start| *start <= size)
             .last()
             .unwrap_or(0);
-        assert_eq!(rt; judged(&GOOD[0..size], LIMITS), (15, at));
+        assert_eq!(rt; judged(&GOOD[0..size], LIMITS), Some((15, at)));
     }
 }
 
 #[test]
 fn marks_and_their_order(rt: HostRuntime) {
-    assert_eq!(rt; judged(b"nw\x00\x03\x01", LIMITS), (16, 0));
-    assert_eq!(rt; judged(b"EN", LIMITS), (16, 0));
+    assert_eq!(rt; judged(b"nw\x00\x03\x01", LIMITS), Some((16, 0)));
+    assert_eq!(rt; judged(b"EN", LIMITS), Some((16, 0)));
     // the mark is judged before the body that is cut
-    assert_eq!(rt; judged(b"NW\x00\x03\x01NW\x00", LIMITS), (16, 5));
+    assert_eq!(rt; judged(b"NW\x00\x03\x01NW\x00", LIMITS), Some((16, 5)));
     assert_eq!(rt;
         judged(b"NW\x00\x03\x01QT\x00\x01\x00\x01", LIMITS),
-        (16, 5)
+        Some((16, 5))
     );
-    assert_eq!(rt; judged(b"NW\x00\x03\x01EN", LIMITS), (16, 5));
-    assert_eq!(rt; judged(b"NW\x00\x03\x01QS\x01\x00\x01AR", LIMITS), (16, 10));
+    assert_eq!(rt; judged(b"NW\x00\x03\x01EN", LIMITS), Some((16, 5)));
+    assert_eq!(rt;
+        judged(b"NW\x00\x03\x01QS\x01\x00\x01AR", LIMITS),
+        Some((16, 10))
+    );
 }
 
 #[test]
 fn fields_and_their_ranges(rt: HostRuntime) {
-    assert_eq!(rt; judged(b"NW\x00\x00\x01", LIMITS), (17, 0));
-    assert_eq!(rt; judged(b"NW\x03\xe9\x01", LIMITS), (17, 0));
-    assert_eq!(rt; judged(b"NW\x00\x03\x05", LIMITS), (17, 0));
-    assert_eq!(rt; judged(b"NW\x00\x03\x01QS\x15\x00\x01EN", LIMITS), (17, 5));
-    assert_eq!(rt; judged(b"NW\x00\x03\x01QS\x01\x03\xe9EN", LIMITS), (17, 5));
+    assert_eq!(rt; judged(b"NW\x00\x00\x01", LIMITS), Some((17, 0)));
+    assert_eq!(rt; judged(b"NW\x03\xe9\x01", LIMITS), Some((17, 0)));
+    assert_eq!(rt; judged(b"NW\x00\x03\x05", LIMITS), Some((17, 0)));
+    assert_eq!(rt;
+        judged(b"NW\x00\x03\x01QS\x15\x00\x01EN", LIMITS),
+        Some((17, 5))
+    );
+    assert_eq!(rt;
+        judged(b"NW\x00\x03\x01QS\x01\x03\xe9EN", LIMITS),
+        Some((17, 5))
+    );
     assert_eq!(rt;
         judged(b"NW\x00\x03\x01QS\x01\x00\x01QT\x00\x01\x00\x00EN", LIMITS),
-        (17, 10)
+        Some((17, 10))
     );
     // a target that is no node passes
     assert_eq!(rt;
         judged(b"NW\x00\x03\x01QS\x01\x00\x01QT\x00\x00\x00\x01EN", LIMITS),
-        (0, 0)
+        None
     );
 }
 
@@ -79,11 +86,11 @@ fn fields_and_their_ranges(rt: HostRuntime) {
 fn bytes_behind_the_end(rt: HostRuntime) {
     assert_eq!(rt;
         judged(b"NW\x00\x03\x01QS\x01\x00\x01ENE", LIMITS),
-        (18, 12)
+        Some((18, 12))
     );
     assert_eq!(rt;
         judged(b"NW\x00\x03\x01QS\x01\x00\x01ENEN", LIMITS),
-        (18, 12)
+        Some((18, 12))
     );
 }
 
@@ -92,36 +99,36 @@ fn bytes_behind_the_end(rt: HostRuntime) {
 fn arcs_that_are_not_taken(rt: HostRuntime) {
     assert_eq!(rt;
         judged(b"NW\x00\x03\x01AR\x00\x00\x00\x02\x00\x00\x00\x01", LIMITS),
-        (2, 5)
+        Some((2, 5))
     );
     assert_eq!(rt;
         judged(b"NW\x00\x03\x01AR\x00\x01\x00\x04\x00\x00\x00\x01", LIMITS),
-        (2, 5)
+        Some((2, 5))
     );
     assert_eq!(rt;
         judged(b"NW\x00\x03\x01AR\x00\x02\x00\x02\x00\x00\x00\x01", LIMITS),
-        (3, 5)
+        Some((3, 5))
     );
     assert_eq!(rt;
         judged(
             b"NW\x00\x03\x01AR\x00\x01\x00\x02\x00\x00\x00\x01AR\x00\x02\x00\x01\x00\x00\x00\x01",
             LIMITS,
         ),
-        (4, 15)
+        Some((4, 15))
     );
     assert_eq!(rt;
         judged(b"NW\x00\x03\x01AR\x00\x01\x00\x02\x3b\x9a\xca\x01", LIMITS),
-        (5, 5)
+        Some((5, 5))
     );
     assert_eq!(rt;
         judged(
             b"NW\x00\x03\x04AR\x00\x01\x00\x02\x00\x00\x00\x01\x80\x00\x00\x00",
             LIMITS,
         ),
-        (5, 5)
+        Some((5, 5))
     );
     let two = Limits { arcs: 2, ..LIMITS };
-    assert_eq!(rt; judged(GOOD, two), (6, 25));
+    assert_eq!(rt; judged(GOOD, two), Some((6, 25)));
 }
 
 #[test]
@@ -131,14 +138,14 @@ fn what_a_reader_takes(rt: HostRuntime) {
         nodes: 2,
         ..LIMITS
     };
-    assert_eq!(rt; judged(GOOD, few_nodes), (19, 0));
-    assert_eq!(rt; judged(b"NW\x00\x65\x01??", LIMITS), (19, 0));
-    assert_eq!(rt; judged(b"NW\x00\x65\x05", LIMITS), (17, 0));
+    assert_eq!(rt; judged(GOOD, few_nodes), Some((19, 0)));
+    assert_eq!(rt; judged(b"NW\x00\x65\x01??", LIMITS), Some((19, 0)));
+    assert_eq!(rt; judged(b"NW\x00\x65\x05", LIMITS), Some((17, 0)));
     let few_bytes = Limits {
         bytes: 52,
         ..few_nodes
     };
-    assert_eq!(rt; judged(GOOD, few_bytes), (20, 0));
+    assert_eq!(rt; judged(GOOD, few_bytes), Some((20, 0)));
 }
 
 // The same faults at later arcs, at other kinds and at the smallest limits.
@@ -149,21 +156,21 @@ fn faults_further_on(rt: HostRuntime) {
             b"NW\x00\x03\x02AR\x00\x01\x00\x02\x00\x00\x00\x01AR\x00\x03\x00\x03\x00\x00\x00\x01",
             LIMITS,
         ),
-        (3, 15)
+        Some((3, 15))
     );
     assert_eq!(rt;
         judged(
             b"NW\x00\x03\x03AR\x00\x01\x00\x03\x00\x00\x00\x01\x00\x00\x00\x02AR\x00\x01\x00\x02\x00\x00\x00\x01\x00\x00\x00\x02",
             LIMITS,
         ),
-        (4, 19)
+        Some((4, 19))
     );
     let none = Limits {
         bytes: 0,
         arcs: 0,
         ..LIMITS
     };
-    assert_eq!(rt; judged(b"N", none), (20, 0));
+    assert_eq!(rt; judged(b"N", none), Some((20, 0)));
     let no_arcs = Limits { arcs: 0, ..LIMITS };
-    assert_eq!(rt; judged(GOOD, no_arcs), (6, 5));
+    assert_eq!(rt; judged(GOOD, no_arcs), Some((6, 5)));
 }

@@ -43,6 +43,7 @@ fn read_calls<M: Columns>(rt: &HostRuntime, text: &str) -> Result<Vec<Call<M>>, 
 fn play<M: Columns>(rt: &HostRuntime, nodes: usize, text: &str) -> Result<(), Failure> {
     let heap = rt.alloc();
     let calls = read_calls::<M>(rt, text)?;
+    // no struct for the tables, since they are lent once
     let mut arcs = vec![in heap; Arc::default(); ARCS]?;
     let mut lengths = vec![in heap; M::null(); ARCS]?;
     let mut values = vec![in heap; M::null(); CELLS]?;

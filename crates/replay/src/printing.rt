@@ -2,9 +2,10 @@
 use columns::{Columns, column_text};
 use failure::Failure;
 use journal::{Answer, Call, Entry};
+use report::row_line;
 use std::alloc::{AllocError, Global};
 
-// A call as it is written. No `Display` of a wrapper: `column_text` allocates, and a formatter has no heap.
+// A call as it is written. A `Display` would need a wrapper of its own, since calls are another crate's.
 fn call_text<M: Columns>(heap: Global, call: &Call<M>) -> Result<String, AllocError> {
     match call {
         Call::Put { start, end, length } => {
@@ -24,7 +25,7 @@ fn call_text<M: Columns>(heap: Global, call: &Call<M>) -> Result<String, AllocEr
     }
 }
 
-// An answer in words.
+// An answer in words; no `Display`, as for calls.
 fn answer_text<M: Columns>(heap: Global, answer: &Answer<M>) -> Result<String, AllocError> {
     match answer {
         Answer::Refused(why) => format!(in heap; "refused {}", why.number()),
@@ -44,18 +45,6 @@ fn answer_text<M: Columns>(heap: Global, answer: &Answer<M>) -> Result<String, A
     }
 }
 
-// The line of a node's row.
-fn row_line<M: Columns>(heap: Global, node: usize, row: &[M]) -> Result<String, AllocError> {
-    let mut line = format!(in heap; "  node {node} lengths")?;
-    if row.is_empty() {
-        line.push_str(" none")?;
-    }
-    for length in row {
-        write!(line, " {}", column_text(heap, length)?)?;
-    }
-    Ok(line)
-}
-
 // An entry: the call, its answer, the arcs of a path and the rows of a solve.
 pub fn print_entry<M: Columns>(rt: &HostRuntime, entry: &Entry<M>) -> Result<(), Failure> {
     let heap = rt.alloc();
@@ -73,7 +62,10 @@ pub fn print_entry<M: Columns>(rt: &HostRuntime, entry: &Entry<M>) -> Result<(),
         // each row has K cells, and as many lengths as its count says
         let rows = entry.values.chunks(order.k).zip(entry.counts.iter());
         for (node, (cells, count)) in (1..).zip(rows) {
-            rt.println(row_line(heap, node, &cells[..cells.len().min(*count)])?)?;
+            println!(rt;
+                "  {}",
+                row_line(heap, node, &cells[..cells.len().min(*count)])?
+            )?;
         }
     }
     Ok(())

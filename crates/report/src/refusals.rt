@@ -1,4 +1,4 @@
-// What is printed in place of an answer.
+// What is printed in place of an answer. Reasons come as numbers: those of files and of sessions are types of other crates.
 ghost use Rattle.std.specs.Prelude.{◌≡◌, ◌++◌, IfOk, string_bytes, codes, decimal};
 
 use std::alloc::{AllocError, Global};
@@ -10,7 +10,7 @@ pub fn file_refused_line(heap: Global, number: u8, at: usize) -> Result<String, 
     format!(in heap; "file refused {number} at {at}")
 }
 
-// A solve that is refused, as `solve refused 11`.
+// A solve that is refused, as `solve refused 11`. A line each, as its bytes are the contract.
 pub fn solve_refused_line(heap: Global, number: u8) -> Result<String, AllocError>
     ensures { IfOk result (λ t. string_bytes t ≡ codes "solve refused " ++ decimal number) }
 {

@@ -8,6 +8,9 @@ use Rattle.measure.specs.Algebra.{Algebra, Laws}
 use Rattle.routes.specs.declared.ranking.Route.{Route}
 use Rattle.routes.specs.Ranking.{route_compare, NotAfter}
 
+number_equal : (a b : ℕ) → nat_cmp a b ≡ Equal → a ≡ b
+number_equal a b h = grind (arith, nat_tests)
+
 not_below : (a b : ℕ) → is_lt (nat_cmp b a) ≡ false → a ≤ b
 not_below a b h = grind (arith, nat_tests)
 
@@ -21,6 +24,24 @@ module _ {V : Type 0} {m : Algebra V} (laws : Laws m) where
 
   pub total_order : IsTotalOrder (route_compare m)
   total_order = then_total (on_total (λ (r : Route V). r.length) by_length) (on_total (λ (r : Route V). r.number) nat_cmp_total)
+
+  pub flipped : (a b : Route V) → route_compare m a b ≡ ordering_reverse (route_compare m b a)
+  flipped = total_order.antisymm
+
+  pub transitive : (a b c : Route V) → route_compare m a b ≡ Less → route_compare m b c ≡ Less → route_compare m a c ≡ Less
+  transitive = total_order.trans
+
+  alike_by : (a b : Route V) (o : Ordering) → m.compare a.length b.length ≡ o → ordering_then o (nat_cmp a.number b.number) ≡ Equal → a ≡ b
+  alike_by a b Less p e = absurd cc
+  alike_by a b Equal p e =
+      let x = laws.same a.length b.length p in
+      let y = number_equal a.number b.number e in
+      (λ j. record { number = y j; length = x j })
+  alike_by a b Greater p e = absurd cc
+
+  -- routes that compare the same are one value
+  pub alike : (a b : Route V) → route_compare m a b ≡ Equal → a ≡ b
+  alike a b e = alike_by a b (m.compare a.length b.length) refl e
 
   decided_by : (a b : Route V) (o : Ordering) → m.compare b.length a.length ≡ o → is_lt (ordering_then o (nat_cmp b.number a.number)) ≡ false → NotAfter m a b
   decided_by a b Less e h = absurd cc

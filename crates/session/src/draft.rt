@@ -25,7 +25,8 @@ impl Draft {
         })
     }
 
-    // Takes an arc, open, and answers its number. Arcs come with ends that do not descend.
+    // Takes an arc, open, and answers its number. Arcs come with ends that do not descend. No struct for start, end and length: a
+    // caller would build one for this call alone.
     pub fn put<M: Measure>(
         &mut self,
         arcs: &mut [Arc],

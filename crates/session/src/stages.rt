@@ -3,7 +3,8 @@ ghost use Rattle.std.specs.Prelude.{◌≤◌};
 use sweeps::Order;
 use tracing::Cursor;
 
-// A session that takes arcs: for so many nodes, with so many arcs so far. No arc may end below `last`, where the last one ends.
+// A session that takes arcs: for so many nodes, with so many arcs so far. No arc may end below `last`, where the last one
+// ends: 0, below every end, before the first.
 #[derive(Drop)]
 pub struct Draft {
     pub(crate) nodes: usize,

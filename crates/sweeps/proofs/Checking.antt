@@ -1,14 +1,22 @@
 -- What looking at the arc tables keeps from arc to arc.
-use Rattle.std.proofs.Common.{zero, min, leb, true, false, take, length-take, ◌≡◌, ℕ, suc, ◌+◌, ◌<◌, ◌≤◌, List, length, get_or, set, sym, ap, ◌∙◌, subst, inl, inr, add-one, arith}
+use Rattle.std.proofs.Common.{Bool, Option, Some, None, Ordering, Less, Equal, Greater, refl, zero, min, leb, true, false, take, length-take, ◌≡◌, ℕ, suc, ◌+◌, ◌<◌, ◌≤◌, List, length, get_or, set, sym, ap, ◌∙◌, subst, inl, inr, add-one, arith}
 use Rattle.std.proofs.lemmas.List.{get_or-set_same, get_or-set_other, get_or-take, get_or_default}
 use Rattle.std.proofs.lemmas.Bool.{cases_eq, leb-true, leb-false, le-leb}
 use Rattle.std.specs.List.Sorted.{IsPartitionedBy, IsPartitionPoint}
+use Rattle.std.specs.Option.{option_eq}
 use Rattle.measure.specs.Algebra.{Algebra}
 use Rattle.walks.specs.Networks.{Network, ProperArc}
 use Rattle.sweeps.specs.declared.Arc.{Arc}
 use Rattle.sweeps.specs.Tables.{network, no_arc, arc_at, InOrder}
-use Rattle.sweeps.specs.Firsts.{over_arc, over_at}
-use Rattle.sweeps.specs.Nodes.{FitsArc, Indexed}
+use Rattle.sweeps.specs.Firsts.{told, over_arc, over_at}
+use Rattle.sweeps.specs.Nodes.{FitsArc}
+
+-- `==` with an order is a test of an order that may not be there
+pub told_by : (test : Ordering → Bool) (eq : Ordering → Ordering → Bool) (z : Ordering) → eq Less z ≡ test Less → eq Equal z ≡ test Equal → eq Greater z ≡ test Greater → (o : Option Ordering) → option_eq eq o (Some z) ≡ told test o
+told_by test eq z l e g None = refl
+told_by test eq z l e g (Some Less) = l
+told_by test eq z l e g (Some Equal) = e
+told_by test eq z l e g (Some Greater) = g
 
 module _ {V : Type 0} (m : Algebra V) (net : Network V) where
   -- the first a arcs are in order, and the last of them ends at `last`
@@ -72,14 +80,6 @@ module _ {V : Type 0} (net : Network V) where
     | inl e ↦ subst (λ z. Splits (get_or (set first j below) z 0) z) (sym e) (subst (λ z. Splits z j) (sym (get_or-set_same first j below 0 lt)) s)
     | inr ne ↦ subst (λ z. Splits z i) (sym (get_or-set_other first j i below 0 ne)) (h i (omega arith))
   ]
-
-  pub indexing_all : (first : List ℕ) (j : ℕ) → j ≡ suc net.nodes → suc net.nodes ≤ length first → Indexing first j → Indexed net first
-  indexing_all first j e room h = record {
-    room = room;
-    few = λ i le. (h i (omega arith)).few;
-    below = λ i a le. (h i (omega arith)).under a;
-    above = λ i a le. (h i (omega arith)).above a;
-  }
 
 module _ {V : Type 0} (m : Algebra V) (n : ℕ) (arcs : List Arc) (lengths : List V) (total : ℕ) (total_is : total ≡ min (length arcs) (length lengths)) (j : ℕ) where
   arc_is : (i : ℕ) (d : Arc) → i < total → get_or (take total arcs) i d ≡ get_or arcs i no_arc

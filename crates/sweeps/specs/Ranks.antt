@@ -3,8 +3,7 @@ use Rattle.std.specs.Prelude.{◌≡◌, ℕ, zero, suc, ◌+◌, ◌-◌, ◌<�
 use Rattle.std.specs.Ordering.{is_eq}
 use Rattle.measure.specs.Algebra.{Algebra}
 use Rattle.walks.specs.Networks.{Network}
-use Rattle.sweeps.specs.declared.Arc.{Arc}
-use Rattle.sweeps.specs.Firsts.{told, over_arc, over_at}
+use Rattle.sweeps.specs.Firsts.{told, over_at}
 
 -- how many are not ranked
 abbrev pub left : List ℕ → ℕ
@@ -15,11 +14,8 @@ left (suc r ∷ rs) = left rs
 abbrev pub rank_of : List ℕ → ℕ → ℕ
 rank_of ranks j = slice_index ranks (j - 1)
 
--- the first length at the arc's end comes over the arc
-abbrev pub is_tight : {V : Type 0} → Algebra V → ℕ → List V → List ℕ → Arc → V → Bool
-is_tight m k values counts arc x = told is_eq (over_arc m k values counts arc x)
-
 module _ {V : Type 0} (m : Algebra V) (net : Network V) (k : ℕ) (values : List V) (counts : List ℕ) where
+  -- the first length at the arc's end comes over the arc
   abbrev pub tight_at : ℕ → Bool
   tight_at a = told is_eq (over_at m net k values counts a)
 

@@ -1,10 +1,8 @@
 // First lengths, and what comes over the arcs to them.
 ghost use Rattle.std.specs.Prelude.{◌≡◌, ◌≤◌, length};
-ghost use Rattle.std.specs.Ordering.{is_lt};
 ghost use Rattle.std.proofs.Props.{props};
 ghost use Rattle.sweeps.specs.Nodes.{IsNode, FitsArc, Shape};
-ghost use Rattle.sweeps.specs.Firsts.{first_length_of, told, over_arc, LaggingOr};
-ghost use Rattle.sweeps.specs.Ranks.{is_tight};
+ghost use Rattle.sweeps.specs.Firsts.{first_length_of, over_arc, LaggingOr};
 ghost use Rattle.sweeps.specs.Inwards.{net_of};
 
 use super::Arc;
@@ -37,7 +35,7 @@ impl<M: Measure> Rows<'_, M> {
 
     // How the first length of an arc's start, joined with the arc's, compares with the first length of its end: none if the arc is
     // closed or one of them is not there.
-    fn over(&self, arc: Arc, x: M) -> Option<Ordering>
+    pub fn over(&self, arc: Arc, x: M) -> Option<Ordering>
         requires { FitsArc M.Measure.algebra self.now.net.now.nodes arc x }
         ensures { result ≡ over_arc M.Measure.algebra self.now.k self.now.values.now self.now.counts.now arc x }
     {
@@ -50,28 +48,12 @@ impl<M: Measure> Rows<'_, M> {
         Some(y.compare(&here))
     }
 
-    // Whether the first length at the arc's end comes over the arc.
-    pub fn tight(&self, arc: Arc, x: M) -> bool
-        requires { FitsArc M.Measure.algebra self.now.net.now.nodes arc x }
-        ensures { result ≡ is_tight M.Measure.algebra self.now.k self.now.values.now self.now.counts.now arc x }
-    {
-        matches!(self.over(arc, x), Some(Ordering::Equal))
-    }
-
     // Whether an arc brings its end a length before the first one there.
-    fn lags(&self, arc: Arc, x: M) -> bool
-        requires { FitsArc M.Measure.algebra self.now.net.now.nodes arc x }
-        ensures { result ≡ told is_lt (over_arc M.Measure.algebra self.now.k self.now.values.now self.now.counts.now arc x) }
-    {
-        matches!(self.over(arc, x), Some(Ordering::Less))
-    }
-
-    // Whether some arc does.
     pub fn lagging(&self) -> bool
         ensures { LaggingOr M.Measure.algebra (net_of M.Measure.algebra self.now.net.now) self.now.k self.now.values.now self.now.counts.now result }
     {
         for (arc, x) in self.net.arcs.iter().zip(self.net.lengths) {
-            if self.lags(*arc, *x) {
+            if self.over(*arc, *x) == Some(Ordering::Less) {
                 return true;
             }
         }

@@ -25,6 +25,7 @@ fn fits<M: Measure>(nodes: usize, arc: Arc, x: M) -> bool
 pub fn in_order<M: Measure>(nodes: usize, arcs: &[Arc], lengths: &[M]) -> bool
     ensures { Whether result (InOrder M.Measure.algebra (network M.Measure.algebra nodes arcs.now lengths.now)) }
 {
+    // 0 is below every end
     let mut last = 0;
     for (arc, x) in arcs.iter().zip(lengths) {
         if !fits(nodes, *arc, *x) || arc.end < last {
@@ -42,7 +43,7 @@ pub fn index<M: Measure>(nodes: usize, arcs: &[Arc], lengths: &[M], first: &mut 
     ensures { Indexed (network M.Measure.algebra nodes arcs.now lengths.now) first.new }
 {
     let total = arcs.len().min(lengths.len());
-    for j in 0..=nodes {
-        first[j] = arcs[..total].partition_point(|arc| arc.end as usize <= j);
+    for (j, cell) in first[..=nodes].iter_mut().enumerate() {
+        *cell = arcs[..total].partition_point(|arc| arc.end as usize <= j);
     }
 }

@@ -17,7 +17,7 @@ pub struct Inward<'a, M: Measure> {
 }
 
 impl<M: Measure> Inward<'_, M> {
-    // The arcs into node j, and their lengths.
+    // The arcs into node j, and their lengths. That j is a node is asked of each call, since it speaks of j and not of the network.
     pub fn into_node(&self, j: usize) -> (&[Arc], &[M])
         requires { IsNode self.now.nodes j }
         ensures arcs { result.0.now ≡ slice_range self.now.arcs.now (slice_index self.now.first.now (j - 1)) (slice_index self.now.first.now j) }

@@ -7,9 +7,10 @@ ghost use Rattle.sweeps.specs.Inwards.{net_of};
 use super::firsts::Rows;
 use super::orders::MOST_NODES;
 use measure::Measure;
+use std::cmp::Ordering;
 
 impl<M: Measure> Rows<'_, M> {
-    // Whether no tight arc leads to node j from a node that is not ranked.
+    // Whether no tight arc, one over which the first length at its end comes, leads to node j from a node that is not ranked.
     fn free(&self, j: usize, ranks: &[usize]) -> bool
         requires node { IsNode self.now.net.now.nodes j }
         requires room { self.now.net.now.nodes ≤ length ranks.now }
@@ -17,7 +18,7 @@ impl<M: Measure> Rows<'_, M> {
     {
         let (arcs, lengths) = self.net.into_node(j);
         for (arc, x) in arcs.iter().zip(lengths) {
-            if ranks[arc.start as usize - 1] == 0 && self.tight(*arc, *x) {
+            if ranks[arc.start as usize - 1] == 0 && self.over(*arc, *x) == Some(Ordering::Equal) {
                 return false;
             }
         }
@@ -45,7 +46,7 @@ impl<M: Measure> Rows<'_, M> {
     pub fn null_circuit(&self) -> bool
         ensures { Ranked M.Measure.algebra (net_of M.Measure.algebra self.now.net.now) self.now.k self.now.values.now self.now.counts.now result }
     {
-        // 0 for a node that is not ranked; an array, since a solve allocates nothing
+        // 0 for a node that is not ranked, as the definitions count ranks; an array, since a solve allocates nothing
         let mut ranks = [0usize; MOST_NODES];
         let mut ranked = 0;
         loop {

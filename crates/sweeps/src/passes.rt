@@ -1,4 +1,5 @@
-// Passes over all the nodes.
+// Passes over all the nodes. The tables of values and counts are lent as two slices throughout: held as `&mut` in a struct, each
+// function would owe a clause that they are still the same slices. `down` is a `bool`, as the definitions tell a direction.
 ghost use Rattle.std.specs.Prelude.{length};
 ghost use Rattle.sweeps.specs.Nodes.{Shape};
 ghost use Rattle.sweeps.specs.Passes.{Passed};
@@ -16,6 +17,7 @@ impl<M: Measure> Inward<'_, M> {
     {
         let mut changed = false;
         for i in 0..self.nodes {
+            // by a count, since a range and its reverse are two types
             let j = if down { self.nodes - i } else { i + 1 };
             changed |= self.work_node(down, j, k, values, counts);
         }

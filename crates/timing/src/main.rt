@@ -2,13 +2,10 @@
 #![tactic(auto)]
 
 use measure::{Measure, Sum};
-use session::{Arc, Draft, Order};
+use session::{Arc, Draft, MOST_ARCS, Order};
 use std::alloc::Global;
 use std::env;
 use std::time::Instant;
-
-// How many cells the tables of arcs and of lengths have.
-const ARCS: usize = 10000;
 
 // The side of the grid.
 const SIDE: usize = 24;
@@ -59,8 +56,8 @@ impl Network {
             nodes,
             k,
             draft: Draft::new(nodes)?,
-            arcs: vec![in heap; Arc::default(); ARCS]?,
-            lengths: vec![in heap; Sum::null(); ARCS]?,
+            arcs: vec![in heap; Arc::default(); MOST_ARCS]?,
+            lengths: vec![in heap; Sum::null(); MOST_ARCS]?,
         })
     }
 
@@ -79,13 +76,13 @@ fn grid(heap: Global) -> anyhow::Result<Network> {
         for column in 0..SIDE {
             let end = row * SIDE + column + 1;
             let neighbours = [
-                (row > 0, end.saturating_sub(SIDE)),
-                (column > 0, end - 1),
-                (column < SIDE - 1, end + 1),
-                (row < SIDE - 1, end + SIDE),
+                (row > 0).then_some(end.saturating_sub(SIDE)),
+                (column > 0).then_some(end - 1),
+                (column < SIDE - 1).then_some(end + 1),
+                (row < SIDE - 1).then_some(end + SIDE),
             ];
-            for (exists, start) in neighbours {
-                if exists {
+            for neighbour in neighbours {
+                if let Some(start) = neighbour {
                     network.put(start, end, numbers.length())?;
                 }
             }
@@ -100,6 +97,7 @@ fn scattered(heap: Global) -> anyhow::Result<Network> {
     let mut numbers = Numbers { state: 12 };
     for end in 1..=NODES {
         for _ in 0..10 {
+            // a node other than the end; in the crate trials the numbers are of another type
             let other = numbers.up_to(999) as usize;
             let start = if other < end { other } else { other + 1 };
             network.put(start, end, numbers.length())?;

@@ -19,7 +19,7 @@ impl Cursor {
     }
 
     // Hands out the next path: writes its arcs from the source on into the first cells of the path table, and tells how many there are and its length.
-    // Each table is lent to each call. The work table is to be as the last call on this cursor left it.
+    // Each table is lent anew at each call, as a slice of its own. The work table is to be as the last call on this cursor left it.
     pub fn next<'a, M: Measure>(
         &mut self,
         nodes: usize,

@@ -16,7 +16,7 @@ pub struct Label {
 }
 
 impl<M: Measure> Lent<'_, M> {
-    // The length at a label.
+    // The length at a label: a session's own length counts places from 1 and refuses what is none.
     pub fn value(&self, label: Label) -> Option<M>
         ensures { Valued M.Measure.algebra (read self.now) label result }
     {
@@ -58,7 +58,7 @@ impl<M: Measure> Lent<'_, M> {
                 .is_some_and(|x| x.compare(&M::null()).is_eq())
     }
 
-    // The label that a step leads back to.
+    // The label that a step leads back to. A step of the caller's table may name no arc: then to node 0, which has no lengths.
     pub fn back(&self, step: Step) -> Label
         ensures { result ≡ lab self.now.arcs.now step }
     {

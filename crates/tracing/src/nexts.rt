@@ -56,6 +56,7 @@ pub fn write_path(steps: &[Step], path: &mut [usize])
     requires { length steps.now ≤ length path.old }
     ensures { Written steps.now path.old path.new }
 {
+    // by number: of cells zipped by `iter_mut` nothing is known afterwards
     for (i, step) in steps.iter().rev().enumerate() {
         path[i] = step.arc;
     }

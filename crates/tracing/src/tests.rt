@@ -13,7 +13,7 @@ fn arc(start: u32, end: u32) -> Arc {
     }
 }
 
-// Four nodes and six arcs, sorted by their ends.
+// Four nodes and six arcs, sorted by their ends, as in sweeps_trials.
 fn arcs() -> [Arc; 6] {
     [
         arc(3, 2),
@@ -26,32 +26,12 @@ fn arcs() -> [Arc; 6] {
 }
 
 fn lengths() -> [Sum; 6] {
-    [
-        Sum::new(1),
-        Sum::new(4),
-        Sum::new(2),
-        Sum::new(1),
-        Sum::new(5),
-        Sum::new(7),
-    ]
+    [1, 4, 2, 1, 5, 7].map(Sum::new)
 }
 
 // The rows from node 1 for K = 3: 0; 3 4 5; 2 4 5; 8 9 10.
 fn rows() -> [Sum; 12] {
-    [
-        Sum::new(0),
-        Sum::new(0),
-        Sum::new(0),
-        Sum::new(3),
-        Sum::new(4),
-        Sum::new(5),
-        Sum::new(2),
-        Sum::new(4),
-        Sum::new(5),
-        Sum::new(8),
-        Sum::new(9),
-        Sum::new(10),
-    ]
+    [0, 0, 0, 3, 4, 5, 2, 4, 5, 8, 9, 10].map(Sum::new)
 }
 
 // The count and the length of the next path.

@@ -14,6 +14,7 @@ impl<M: Measure> Lent<'_, M> {
         ensures { Descended M.Measure.algebra (read self.now) from work.new result }
     {
         let mut here = from;
+        // by number, since the depth is the answer
         for depth in 0..work.len() {
             if self.home(here) {
                 return Some(depth);
@@ -40,6 +41,7 @@ impl<M: Measure> Lent<'_, M> {
         requires { depth ≤ length work.old }
         ensures { Turned M.Measure.algebra (read self.now) from depth work.old work.new result }
     {
+        // by number, since the levels below it are read too
         for i in (0..depth).rev() {
             let at = self.end(from, &work[..i]);
             if let Some(step) = self.further(at, work[i].arc) {

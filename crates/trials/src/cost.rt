@@ -60,7 +60,11 @@ impl Cost {
     // The cost of a length of this kind.
     pub fn of<M: Columns>(kind: Kind, length: &M) -> Option<Cost> {
         let first = length.column(0)?;
-        let second = length.column(1).unwrap_or(0);
+        let second = if kind.width() == 2 {
+            length.column(1)?
+        } else {
+            0
+        };
         Some(Cost { first, second }.turned(kind))
     }
 

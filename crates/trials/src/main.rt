@@ -24,8 +24,7 @@ const EACH: u64 = 1000;
 // Compares on the networks of one kind, and prints the counts.
 fn compare_kind<M: Columns>(rt: &HostRuntime, kind: Kind) -> anyhow::Result<Tally> {
     let heap = rt.alloc();
-    // kinds are numbered from 1, in the order of their variants
-    let number = kind as u8 + 1;
+    let number = kind as u8;
     let mut tally = Tally::default();
     for i in 0..EACH {
         let before = tally.differences;
@@ -41,6 +40,7 @@ fn compare_kind<M: Columns>(rt: &HostRuntime, kind: Kind) -> anyhow::Result<Tall
 }
 
 fn main(rt: HostRuntime) -> anyhow::Result<()> {
+    // a call for each kind, since each is a type of its own
     let sums = compare_kind::<Sum>(&rt, Kind::Sum)?;
     let reversed = compare_kind::<Reversed<Sum>>(&rt, Kind::ReversedSum)?;
     let pairs = compare_kind::<Then<Sum, Sum>>(&rt, Kind::SumThenSum)?;

@@ -91,7 +91,7 @@ impl Style {
     }
 }
 
-// A node other than this one, of so many.
+// A node other than this one, of so many. In the crate timing the numbers are of another type.
 fn other_node(numbers: &mut Numbers, node: usize, nodes: usize) -> usize {
     let other = numbers.one_to(nodes.saturating_sub(1));
     if other < node {

@@ -7,6 +7,7 @@ use measure::Measure;
 use session::{Arc, Draft, Order, Refusal, Settled, Solved, Step, Trace};
 use std::alloc::{AllocError, Global};
 
+// A network with tables of its size; those of the crate answers have one size and hold no network.
 #[derive(Drop)]
 pub struct Tables<'a, M: Measure> {
     network: &'a Network,

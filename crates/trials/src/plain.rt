@@ -83,7 +83,7 @@ impl<'a> Firsts<'a> {
         Ok((1..=nodes).any(|node| joined.contains(&(node, node))))
     }
 
-    // The rows of all nodes, by node; number 0 stays empty. Labels are taken from the lowest on, so a row comes in order.
+    // The rows of all nodes, by node; number 0, no node, stays empty. Labels are taken from the lowest on, so a row comes in order.
     pub fn rows(&self, heap: Global) -> Result<Vec<Vec<Cost>>, AllocError> {
         let mut rows = Vec::new(heap);
         for _ in 0..=self.network.nodes {

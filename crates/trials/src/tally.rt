@@ -59,6 +59,7 @@ impl fmt::Display for Tally {
     }
 }
 
+// One more. It counts and indexes nothing.
 pub fn count(counter: &mut u64) {
     *counter = counter.saturating_add(1);
 }

@@ -21,6 +21,3 @@ invariant_of-self c =
     let file = c.args.self.now.file.now in
     let room : 2 + body_size (mark_of c.in_ok-item.item) c.args.self.now.progress.kind ≤ length (drop at file) = (headed _ _ _ _ (taken c).is.mark).room in
     record { within = omega (arith, length-drop at file, size c) }
-
-pub returns : goal.returns
-returns c = record { same = search rules; taken = taken c.before; at = let e = size c.before in omega arith }

@@ -1,4 +1,4 @@
-use Rattle.std.proofs.Common.{suc, ◌+◌, ◌-◌, ◌≤◌, length, get_or, sym, ap, ◌∙◌, subst, inl, inr, arith}
+use Rattle.std.proofs.Common.{Equal, suc, ◌+◌, ◌-◌, ◌≤◌, length, get_or, refl, sym, ap, ◌∙◌, subst, inl, inr, arith}
 use Rattle.std.proofs.lemmas.Bool.{both_ways, cases_eq}
 use Rattle.std.proofs.lemmas.List.{length_push}
 use Rattle.std.specs.Ordering.{is_eq}
@@ -7,10 +7,10 @@ use Rattle.sweeps.specs.Inwards.{net_of}
 use Rattle.sweeps.specs.Firsts.{told}
 use Rattle.sweeps.specs.Ranks.{tight_at, rank_of}
 use Rattle.sweeps.proofs.Sides.{sides_turn, sides_end}
-use Rattle.sweeps.proofs.Checking.{proper_fits, over_read}
+use Rattle.sweeps.proofs.Checking.{proper_fits, over_read, told_by}
 use Rattle.sweeps.proofs.Noding.{block_item, block_size, in_block}
 use Rattle.sweeps.proofs.firsts.Rows.free.Goals as goal
-use Rattle.sweeps.proofs.firsts.Rows.free.Goals.{else-ranks-arc-eq0-via-then-ranks-arc-eq0+else-tight, else-ranks-arc-eq0-via-else-ranks-arc-eq0}
+use Rattle.sweeps.proofs.firsts.Rows.free.Goals.{else-ranks-arc-eq0-via-then-ranks-arc-eq0+else-eq, else-ranks-arc-eq0-via-else-ranks-arc-eq0}
 
 pub overflow_sub-arc : goal.overflow_sub-arc
 overflow_sub-arc g c =
@@ -28,8 +28,8 @@ bounds-ranks-arc g c =
     (sides_turn c.into_iter-arc-iterator.ensures.into_iter_gives c.zip-arc-items.ensures.first c.iter.ensures.rest c.zip-arc-items.ensures.second.0 c.loop-arc.yielded c.loop-arc.arc-iterator c.next.new.self c.loop-arc.yielded_by (c.in-Some.arc, c.in-Some.x) c.in-Some.is c.next.ensures.steps) in
     omega (arith, b.block.low, b.block.high, ap (λ z. z.start) b.arc_is, c.requires.room)
 
-pub tight-requires : goal.tight-requires
-tight-requires g c =
+pub over-requires : goal.over-requires
+over-requires g c =
     let m = g.M.Measure.algebra in
     let rows = c.args.self.now in
     let net = rows.net.now in
@@ -39,8 +39,8 @@ tight-requires g c =
     let a = get_or net.first.now (c.args.j - 1) 0 + n in
     proper_fits m net.nodes net.arcs.now net.lengths.now a _ _ b.arc_is b.x_is (net.known.ordered.proper (suc a) (omega arith) (omega (arith, b.block.inside)))
 
-pub returns-then-tight : goal.returns-then-tight
-returns-then-tight g c =
+pub returns-then-eq : goal.returns-then-eq
+returns-then-eq g c =
     let m = g.M.Measure.algebra in
     let rows = c.args.self.now in
     let net = rows.net.now in
@@ -52,7 +52,7 @@ returns-then-tight g c =
       arc = suc a;
       low = omega arith;
       high = omega (arith, b.block.inside);
-      tight = sym (c.tight.ensures ∙ ap (told is_eq) (over_read m net.nodes net.arcs.now net.lengths.now a _ _ b.arc_is b.x_is rows.k rows.values.now rows.counts.now)) ∙ c.if-tight.true;
+      tight = sym (c.eq.ensures ∙ told_by is_eq _ Equal refl refl refl _ ∙ ap (told is_eq) (c.over.ensures ∙ over_read m net.nodes net.arcs.now net.lengths.now a _ _ b.arc_is b.x_is rows.k rows.values.now rows.counts.now)) ∙ c.if-eq.true;
       into = b.block.into;
       from = ap (λ z. rank_of c.args.ranks.now z.start) (sym b.arc_is) ∙ c.if-ranks-arc-eq0.true;
     }
@@ -68,9 +68,9 @@ loop-arc-preserved g c = λ i low high t.
     let a = get_or net.first.now (c.args.j - 1) 0 + n in
     elim (cases_eq i (suc a)) [
       | inl e ↦ subst (λ z. 1 ≤ rank_of c.args.ranks.now (arc_at net.arcs.now z).start) (sym e) (elim c.else-ranks-arc-eq0.branch [
-        | else-ranks-arc-eq0-via-then-ranks-arc-eq0+else-tight w ↦
-            absurd (both_ways w.tight.result w.if-tight.false
-            (w.tight.ensures ∙ ap (told is_eq) (over_read m net.nodes net.arcs.now net.lengths.now a _ _ b.arc_is b.x_is rows.k rows.values.now rows.counts.now)
+        | else-ranks-arc-eq0-via-then-ranks-arc-eq0+else-eq w ↦
+            absurd (both_ways w.eq.result w.if-eq.false
+            (w.eq.ensures ∙ told_by is_eq _ Equal refl refl refl _ ∙ ap (told is_eq) (w.over.ensures ∙ over_read m net.nodes net.arcs.now net.lengths.now a _ _ b.arc_is b.x_is rows.k rows.values.now rows.counts.now)
             ∙ ap (tight_at m (net_of m net) rows.k rows.values.now rows.counts.now) (sym e) ∙ t))
         | else-ranks-arc-eq0-via-else-ranks-arc-eq0 w ↦ subst (λ z. 1 ≤ rank_of c.args.ranks.now z.start) b.arc_is (omega (arith, w.if-ranks-arc-eq0.false))
       ])
