@@ -1,12 +1,20 @@
 -- What a reader tells of the records of its file.
-use Rattle.std.specs.Prelude.{◌≡◌, ◌+◌, length, drop, Some, None, Ok, Err, Option, Result}
+use Rattle.std.specs.Prelude.{◌≡◌, ℕ, ◌+◌, List, length, drop, Some, None, Ok, Err, Option, Result}
 use Rattle.netfile.specs.declared.progress.Stage.TheVariants.{Over}
 use Rattle.netfile.specs.declared.reason.Fault.{Fault}
 use Rattle.netfile.specs.declared.records.Record.{Record}
 use Rattle.netfile.specs.declared.reader.Reader.{Reader}
 use Rattle.netfile.specs.Records.{mark_of, body_size}
-use Rattle.netfile.specs.Judging.{Taken}
+use Rattle.netfile.specs.declared.progress.Limits.{Limits}
+use Rattle.netfile.specs.Judging.{start_of_file, Taken}
 use Rattle.netfile.specs.Readings.{Stops}
+
+-- a reader of this file before its first record
+pub record Begins (bytes : List ℕ) (most : Limits) (r : Reader) : Type 0 where
+  pub file : r.file.now ≡ bytes
+  pub limits : r.limits ≡ most
+  pub at : r.at ≡ 0
+  pub progress : r.progress ≡ start_of_file
 
 -- the same file, read by the same limits
 pub record SameFile (r r' : Reader) : Type 0 where

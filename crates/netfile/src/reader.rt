@@ -15,16 +15,11 @@ pub struct Reader<'a> {
 }
 
 impl<'a> Reader<'a> {
-    ghost use Rattle.std.specs.Prelude.{◌≡◌};
-    ghost use Rattle.netfile.specs.Judging.{start_of_file};
-    ghost use Rattle.netfile.specs.Reading.{Told};
+    ghost use Rattle.netfile.specs.Reading.{Begins, Told};
 
     // Before the first record.
     pub fn new(file: &'a [u8], limits: Limits) -> Reader<'a>
-        ensures file { result.file.now ≡ file.now }
-        ensures limits { result.limits ≡ limits }
-        ensures at { result.at ≡ 0 }
-        ensures progress { result.progress ≡ start_of_file }
+        ensures { Begins file.now limits result }
     {
         Reader {
             file,
