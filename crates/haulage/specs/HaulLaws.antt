@@ -8,7 +8,7 @@ use Rattle.std.proofs.Math.Bridge.{le_prop}
 use Rattle.std.proofs.lemmas.Bool.Decides.{nat_tests}
 use Rattle.std.proofs.lemmas.Cmp.{nat_cmp_total, on_total, then_total, tied_itself}
 use Rattle.std.specs.Cmp.{IsTotalOrder}
-use Rattle.std.specs.Ordering.{nat_cmp, ordering_then}
+use Rattle.std.specs.Ordering.{nat_cmp, ordering_then, ordering_reverse}
 use Rattle.measure.specs.Algebra.{Laws}
 use Rattle.haulage.specs.declared.haul.Haul.{Haul}
 use Rattle.haulage.specs.Hauls.{weight, fuel_in, minutes_in, clamped, ranked, haul_algebra, larger_algebra}
@@ -33,6 +33,15 @@ order w f x g = ordering_then (nat_cmp w x) (nat_cmp f g)
 
 order_equal : (w f x g : ℕ) → order w f x g ≡ Equal → (w ≡ x) × (f ≡ g)
 order_equal w f x g h = grind (arith, nat_tests)
+
+order_self : (w f : ℕ) → order w f w f ≡ Equal
+order_self w f = grind (arith, nat_tests)
+
+order_converse : (w f x g : ℕ) → order x g w f ≡ ordering_reverse (order w f x g)
+order_converse w f x g = grind (arith, nat_tests)
+
+order_trans : (w f x g y h : ℕ) → order w f x g ≡ Less → order x g y h ≡ Less → order w f y h ≡ Less
+order_trans w f x g y h p q = grind (arith, nat_tests)
 
 -- as much added to both weights and to both fuels
 order_kept : (w f x g y h : ℕ) {w' f' x' g' : ℕ} → w' ≡ w + y → f' ≡ f + h → x' ≡ x + y → g' ≡ g + h → order w f x g ≡ Less → order w' f' x' g' ≡ Less

@@ -1,13 +1,12 @@
 -- What looking at the arc tables keeps from arc to arc.
-use Rattle.std.proofs.Common.{Bool, Option, Some, None, Ordering, Less, Equal, Greater, refl, zero, min, leb, true, false, take, length-take, ◌≡◌, ℕ, suc, ◌+◌, ◌<◌, ◌≤◌, List, length, get_or, set, sym, ap, ◌∙◌, subst, inl, inr, add-one, arith}
-use Rattle.std.proofs.lemmas.List.{get_or-set_same, get_or-set_other, get_or-take, get_or_default}
-use Rattle.std.proofs.lemmas.Bool.{cases_eq, leb-true, leb-false, le-leb}
-use Rattle.std.specs.List.Sorted.{IsPartitionedBy, IsPartitionPoint}
+use Rattle.std.proofs.Common.{Bool, Option, Some, None, Ordering, Less, Equal, Greater, refl, ◌≡◌, ℕ, suc, ◌+◌, ◌<◌, ◌≤◌, List, length, get_or, set, sym, ap, ◌∙◌, subst, inl, inr, add-one, arith}
+use Rattle.std.proofs.lemmas.List.{get_or-set_same, get_or-set_other}
+use Rattle.std.proofs.lemmas.Bool.{cases_eq}
 use Rattle.std.specs.Option.{option_eq}
 use Rattle.measure.specs.Algebra.{Algebra}
 use Rattle.walks.specs.Networks.{Network, ProperArc}
 use Rattle.sweeps.specs.declared.Arc.{Arc}
-use Rattle.sweeps.specs.Tables.{network, no_arc, arc_at, InOrder}
+use Rattle.sweeps.specs.Tables.{network, no_arc, InOrder}
 use Rattle.sweeps.specs.Firsts.{told, over_arc, over_at}
 use Rattle.sweeps.specs.Nodes.{FitsArc}
 
@@ -65,10 +64,14 @@ module _ {V : Type 0} (m : Algebra V) (n : ℕ) (arcs : List Arc) (lengths : Lis
   over_read k values counts = ap (λ z. over_arc m k values counts z x) arc_is ∙ ap (over_arc m k values counts (get_or arcs a no_arc)) x_is
 
 module _ {V : Type 0} (net : Network V) where
-  -- the arcs up to `below` end at j or below, and no others do
-  pub record Splits (below j : ℕ) : Type 0 where
+  -- all arcs up to `below` end at j or below
+  pub record Under (below j : ℕ) : Type 0 where
     pub few : below ≤ net.arcs
     pub under : (a : ℕ) → 1 ≤ a → a ≤ below → net.end a ≤ j
+
+  -- and no others do
+  pub record Splits (below j : ℕ) : Type 0 where
+    pub under : Under below j
     pub above : (a : ℕ) → below < a → a ≤ net.arcs → j < net.end a
 
   -- the cells before j are written
@@ -81,27 +84,17 @@ module _ {V : Type 0} (net : Network V) where
     | inr ne ↦ subst (λ z. Splits z i) (sym (get_or-set_other first j i below 0 ne)) (h i (omega arith))
   ]
 
-module _ {V : Type 0} (m : Algebra V) (n : ℕ) (arcs : List Arc) (lengths : List V) (total : ℕ) (total_is : total ≡ min (length arcs) (length lengths)) (j : ℕ) where
-  arc_is : (i : ℕ) (d : Arc) → i < total → get_or (take total arcs) i d ≡ get_or arcs i no_arc
-  arc_is i d lt = get_or-take total arcs i d lt ∙ get_or_default arcs i d no_arc (omega arith)
+  pub under_more : (below j : ℕ) → Under below j → below < net.arcs → net.end (suc below) ≤ j → Under (below + 1) j
+  under_more below j h lt le = record {
+    few = omega arith;
+    under = λ a low high. elim (cases_eq a (suc below)) [ inl e ↦ omega (arith, ap net.end e) | inr ne ↦ h.under a low (omega arith) ];
+  }
 
-  size : length (take total arcs) ≡ total
-  size = length-take total arcs ∙ omega arith
+  pub under_on : (below j : ℕ) → Under below j → Under below (j + 1)
+  under_on below j h = record { few = h.few; under = λ a low high. let p = h.under a low high in omega arith }
 
-  -- the arcs that end at j or below come first
-  pub parted : InOrder m (network m n arcs lengths) → IsPartitionedBy (λ arc. leb arc.end j) (take total arcs)
-  parted order = λ i k d le lt below.
-      let last = leb-true _ j below in
-      let up = order.sorted (suc i) (suc k) (omega arith) (omega arith) (omega (arith, size)) in
-      le-leb _ j (omega (arith, ap (λ z. z.end) (arc_is i d (omega (arith, size))), ap (λ z. z.end) (arc_is k d (omega (arith, size)))))
+  pub splits_end : (below j : ℕ) → Under below j → net.arcs ≤ below → Splits below j
+  splits_end below j h le = record { under = h; above = λ a lt high. absurd (omega arith) }
 
-  pub splits_of : (i : ℕ) → i ≤ length (take total arcs) → IsPartitionPoint (λ arc. leb arc.end j ≡ true) (λ arc. leb arc.end j ≡ false) (take total arcs) i → Splits (network m n arcs lengths) i j
-  splits_of i short point = record { few = omega (arith, size); under = under; above = above }
-    where
-      under : (a : ℕ) → 1 ≤ a → a ≤ i → (arc_at arcs a).end ≤ j
-      under zero low high = absurd (omega arith)
-      under (suc a) low high = omega (arith, leb-true _ j (point.0 a no_arc (omega arith) (omega arith)), ap (λ z. z.end) (arc_is a no_arc (omega (arith, size))))
-
-      above : (a : ℕ) → i < a → a ≤ min (length arcs) (length lengths) → j < (arc_at arcs a).end
-      above zero low high = absurd (omega arith)
-      above (suc a) low high = omega (arith, leb-false _ j (point.1 a no_arc (omega arith) (omega (arith, size))), ap (λ z. z.end) (arc_is a no_arc (omega arith)))
+  pub splits_at : (below j : ℕ) → Under below j → ((a b : ℕ) → 1 ≤ a → a ≤ b → b ≤ net.arcs → net.end a ≤ net.end b) → j < net.end (suc below) → Splits below j
+  splits_at below j h sorted past = record { under = h; above = λ a lt high. let s = sorted (suc below) a (omega arith) (omega arith) high in omega arith }

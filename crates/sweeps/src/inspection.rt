@@ -43,7 +43,12 @@ pub fn index<M: Measure>(nodes: usize, arcs: &[Arc], lengths: &[M], first: &mut 
     ensures { Indexed (network M.Measure.algebra nodes arcs.now lengths.now) first.new }
 {
     let total = arcs.len().min(lengths.len());
+    let mut below = 0;
     for (j, cell) in first[..=nodes].iter_mut().enumerate() {
-        *cell = arcs[..total].partition_point(|arc| arc.end as usize <= j);
+        // counted on from cell to cell, since a search for each would look at the arcs more often than once
+        while below < total && arcs[below].end as usize <= j {
+            below += 1;
+        }
+        *cell = below;
     }
 }

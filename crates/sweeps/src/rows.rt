@@ -1,9 +1,25 @@
 // Placing lengths in rows.
 ghost use Rattle.std.specs.Prelude.{◌≡◌, ◌≤◌, length};
+ghost use Rattle.std.specs.Ordering.{is_eq, is_gt};
 ghost use Rattle.sweeps.specs.Places.{first_cell, RowPlaced};
 
 use measure::Measure;
 use std::mem;
+
+// Whether a comes after b. A function with this promise, as the next: where the test is written out in `place`, a wrong one is refused
+// by its name alone.
+fn after<M: Measure>(a: &M, b: &M) -> bool
+    ensures { result ≡ is_gt (M.Measure.algebra.compare a.now b.now) }
+{
+    a.compare(b).is_gt()
+}
+
+// Whether a is the same as b.
+fn same<M: Measure>(a: &M, b: &M) -> bool
+    ensures { result ≡ is_eq (M.Measure.algebra.compare a.now b.now) }
+{
+    a.compare(b).is_eq()
+}
 
 // A row in which one length after another is placed: how many of its first cells hold lengths, whether it has changed, and the cell
 // from which to look for the place of the next length. Any will do, but a length that comes after the last one placed is found at once.
@@ -20,7 +36,7 @@ fn first_cell<M: Measure>(row: &[M], from: usize, x: &M) -> usize
     requires { from ≤ length row.now }
     ensures { result ≡ first_cell M.Measure.algebra row.now from x.now }
 {
-    if from > 0 && x.compare(&row[from - 1]).is_gt() {
+    if from > 0 && after(x, &row[from - 1]) {
         from
     } else {
         0
@@ -35,10 +51,10 @@ impl Filling {
     {
         let mut at = first_cell(row, self.from, &x);
         // a counted search, since with `position` or `take_while` the whole solve takes a tenth longer
-        while at < self.held && x.compare(&row[at]).is_gt() {
+        while at < self.held && after(&x, &row[at]) {
             at += 1;
         }
-        if at < self.held && x.compare(&row[at]).is_eq() {
+        if at < self.held && same(&x, &row[at]) {
             self.from = at + 1;
             return;
         }

@@ -2,7 +2,6 @@
 use super::cost::{Cost, NULL};
 use super::plain::Firsts;
 use std::alloc::{AllocError, Global};
-use std::collections::VecDeque;
 
 // The most endings looked at for one target.
 const MOST_ENDINGS: usize = 3000;
@@ -14,11 +13,20 @@ pub struct Walk {
     pub backward: Vec<usize>,
 }
 
-// The last part of a walk, from `node` on.
-#[derive(Drop)]
+// The last part of a walk, from `node` on. An ending shares its later part with others, since most endings are never walks: a copy of
+// each would take more than a third of a run.
+#[derive(Clone, Copy)]
 struct Ending {
     node: usize,
-    part: Walk,
+    cost: Cost,
+    first: Option<First>,
+}
+
+// The first arc of an ending, and the place of the ending that it goes on by.
+#[derive(Clone, Copy)]
+struct First {
+    arc: usize,
+    rest: usize,
 }
 
 // The walks in order; none if there are too many to look at.
@@ -29,23 +37,24 @@ pub fn walks_found(
     row: &[Cost],
 ) -> Result<Option<Vec<Walk>>, AllocError> {
     let mut walks = Vec::new(heap);
-    let mut endings = VecDeque::new(heap);
-    endings.push_back(Ending {
+    let mut endings = Vec::new(heap);
+    endings.push(Ending {
         node: target,
-        part: Walk {
-            cost: NULL,
-            backward: Vec::new(heap),
-        },
+        cost: NULL,
+        first: None,
     })?;
-    for _ in 0..MOST_ENDINGS {
-        let Some(ending) = endings.pop_front() else {
+    for at in 0..MOST_ENDINGS {
+        let Some(ending) = endings.get(at).copied() else {
             walks.sort()?;
             return Ok(Some(walks));
         };
-        lengthen(firsts, row, &ending, &mut endings)?;
-        if ending.node == firsts.network.source && row.contains(&ending.part.cost) {
-            walks.push(ending.part)?;
+        if ending.node == firsts.network.source && row.contains(&ending.cost) {
+            walks.push(Walk {
+                cost: ending.cost,
+                backward: backward(heap, &endings, ending)?,
+            })?;
         }
+        lengthen(firsts, row, at, ending, &mut endings)?;
     }
     Ok(None)
 }
@@ -54,23 +63,41 @@ pub fn walks_found(
 fn lengthen(
     firsts: &Firsts,
     row: &[Cost],
-    ending: &Ending,
-    endings: &mut VecDeque<Ending>,
+    rest: usize,
+    ending: Ending,
+    endings: &mut Vec<Ending>,
 ) -> Result<(), AllocError> {
     for (i, arc) in firsts.network.arcs.iter().enumerate() {
         if arc.open && arc.end == ending.node {
-            let cost = arc.cost + ending.part.cost;
+            let cost = arc.cost + ending.cost;
             if let (Some(first), Some(last)) = (firsts.of(arc.start), row.last())
                 && first + cost <= *last
             {
-                let mut backward = ending.part.backward.clone()?;
-                backward.push(i + 1)?;
-                endings.push_back(Ending {
+                let first = Some(First { arc: i + 1, rest });
+                endings.push(Ending {
                     node: arc.start,
-                    part: Walk { cost, backward },
+                    cost,
+                    first,
                 })?;
             }
         }
     }
     Ok(())
+}
+
+// The arcs of an ending, the last first.
+fn backward(heap: Global, endings: &[Ending], ending: Ending) -> Result<Vec<usize>, AllocError> {
+    let mut arcs = Vec::new(heap);
+    let mut here = ending;
+    for _ in 0..endings.len() {
+        let Some(First { arc, rest }) = here.first else {
+            break;
+        };
+        arcs.push(arc)?;
+        if let Some(next) = endings.get(rest) {
+            here = *next;
+        }
+    }
+    arcs.reverse();
+    Ok(arcs)
 }

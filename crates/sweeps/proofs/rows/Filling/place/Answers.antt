@@ -1,7 +1,6 @@
 use Rattle.std.proofs.Common.{get_or, sym, ap, ◌∙◌, subst, arith}
-use Rattle.std.specs.Ordering.{is_eq, is_gt}
 use Rattle.sweeps.proofs.Placing.{Seeks, first_low, first_past, next_less, placed_same, lands, shifts_none, shifts_more, placed_room, placed_full, tells_same}
-use Rattle.sweeps.proofs.rows.Filling.place.Goals.{then-loop-at-test+else-is_gt, else-loop-at-test, else-at-self-via-then-at-self+else-is_eq, else-at-self-via-else-at-self}
+use Rattle.sweeps.proofs.rows.Filling.place.Goals.{then-loop-at-test+else-after, else-loop-at-test, else-at-self-via-then-at-self+else-same, else-at-self-via-else-at-self}
 use Rattle.sweeps.proofs.rows.Filling.place.Goals as goal
 
 pub loop-at-init : goal.loop-at-init
@@ -11,15 +10,15 @@ loop-at-init g c =
     subst (Seeks m p.row.now p.self.now.held p.x) (sym c.first_cell-at.ensures)
     (record { low = first_low m p.row.now p.self.now.held p.self.now.changed p.x c.requires p.self.now.from c.args.self.now.within; past = first_past m p.row.now p.self.now.held p.self.now.changed p.x c.requires g.met.M.Measure.lawful p.self.now.from c.args.self.now.within })
 
-pub returns-then-is_eq : goal.returns-then-is_eq
-returns-then-is_eq g c = placed_same _ _ _ _ _ c.requires _ _ c.loop-at.invariant c.if-at-self.true (tells_same _ (c.if-is_eq.ensures ∙ ap is_eq c.compare-then-at-self.ensures))
+pub returns-then-same : goal.returns-then-same
+returns-then-same g c = placed_same _ _ _ _ _ c.requires _ _ c.loop-at.invariant c.if-at-self.true (tells_same _ c.if-same.ensures)
 
 pub loop-cell-init : goal.loop-cell-init
 loop-cell-init g c = (
   c.loop-at.invariant.low,
   (λ up. lands g.M.Measure.algebra c.args.row.now c.args.self.now.held c.args.self.now.changed c.args.x c.requires c.loop-at.at (c.loop-at.invariant.past up) (λ lt. elim c.loop-at-test.branch [
-    | then-loop-at-test+else-is_gt w ↦ elim c.else-at-self.branch [
-      | else-at-self-via-then-at-self+else-is_eq v ↦ next_less g.M.Measure.algebra c.args.row.now c.args.self.now.held c.args.self.now.changed c.args.x c.requires c.loop-at.at w.index-row-at.result v.index-row-at-then-at-self.result lt (w.if-is_gt.ensures ∙ ap is_gt w.compare.ensures) (v.if-is_eq.ensures ∙ ap is_eq v.compare-then-at-self.ensures)
+    | then-loop-at-test+else-after w ↦ elim c.else-at-self.branch [
+      | else-at-self-via-then-at-self+else-same v ↦ next_less g.M.Measure.algebra c.args.row.now c.args.self.now.held c.args.self.now.changed c.args.x c.requires c.loop-at.at w.index-row-at.result v.index-row-at-then-at-self.result lt w.if-after.ensures v.if-same.ensures
       | else-at-self-via-else-at-self v ↦ absurd (omega (arith, v.if-at-self.false))
     ]
     | else-loop-at-test w ↦ absurd (omega (arith, w.loop-at-test.false))
