@@ -1,5 +1,5 @@
 -- A draft and its tables hold the network that its calls build.
-use Rattle.std.proofs.Common.{◌≡◌, ℕ, zero, suc, ◌+◌, ◌-◌, ◌^◌, ◌<◌, ◌≤◌, Bool, List, [], ◌∷◌, ◌++◌, length, get_or, take, set, Ok, Err, Result, sym, refl, ap, ◌∙◌, subst, arith, length-append, length-set, get_or-take}
+use Rattle.std.proofs.Common.{◌≡◌, ℕ, zero, suc, ◌+◌, ◌-◌, ◌^◌, ◌<◌, ◌≤◌, min, Bool, List, [], ◌∷◌, ◌++◌, length, get_or, take, set, Ok, Err, Result, sym, refl, ap, ◌∙◌, subst, arith, length-append, length-set, get_or-take}
 use lib.Seq.{take-set-lt}
 use Rattle.std.proofs.lemmas.List.{take_more_set}
 use Rattle.measure.specs.Algebra.{Algebra}
@@ -52,6 +52,15 @@ module _ {V : Type 0} (m : Algebra V) where
         last = h.last;
         ordered = relengthed m net h.beside h.ordered a x low small;
       }
+
+  -- the parts of the tables up to the draft's count are the network's arcs and lengths
+  pub parts_held : (net : Net V) (d : Draft) (arcs a : List Arc) (lengths l : List V) → DraftHolds m net d arcs lengths
+      → (a ≡ take (min (min d.count (length arcs)) (length lengths)) arcs) × (l ≡ take (min (min d.count (length arcs)) (length lengths)) lengths) → (a ≡ net.arcs) × (l ≡ net.lengths)
+  parts_held net d arcs a lengths l h parts =
+      let arc_room = h.arc_room in
+      let length_room = h.length_room in
+      let most : min (min d.count (length arcs)) (length lengths) ≡ d.count = omega arith in
+      (parts.0 ∙ ap (λ k. take k arcs) most ∙ h.in_arcs, parts.1 ∙ ap (λ k. take k lengths) most ∙ h.in_lengths)
 
   -- a record of the table is that of the network
   pub arc_held : (net : Net V) (d : Draft) (arcs : List Arc) (lengths : List V) → DraftHolds m net d arcs lengths → (a : ℕ) → a ≤ d.count → arc_at arcs a ≡ arc_at net.arcs a

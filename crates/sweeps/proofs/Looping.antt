@@ -1,5 +1,5 @@
 -- What the loops of the passes keep.
-use Rattle.std.proofs.Common.{◌≡◌, ℕ, suc, ◌+◌, ◌-◌, ◌^◌, ◌≤◌, Bool, true, false, ◌||◌, ◌⊎◌, List, length, sym, refl, ap, ◌∙◌, subst, inl, inr, arith}
+use Rattle.std.proofs.Common.{◌≡◌, ℕ, suc, ◌+◌, ◌-◌, ◌^◌, ◌<◌, ◌≤◌, Bool, true, false, cond, ◌||◌, ◌⊎◌, List, length, sym, refl, ap, ◌∙◌, subst, inl, inr, arith}
 use Rattle.measure.specs.Algebra.{Algebra, Laws}
 use Rattle.walks.specs.Networks.{Network, WellFormed}
 use Rattle.walks.specs.Rows.{Table}
@@ -31,10 +31,15 @@ module _ {V : Type 0} (m : Algebra V) (net : Network V) (k : ℕ) where
   abbrev pub Up : List V → List ℕ → List V → List ℕ → Bool → ℕ → Type 0
   Up v0 c0 v c changed j = Part (λ t b s v' c' f. UpTo t b s v' c' f j) v0 c0 v c changed
 
+  -- where a pass has come after i nodes
+  abbrev pub Turns : Bool → List V → List ℕ → List V → List ℕ → Bool → ℕ → Type 0
+  Turns true v0 c0 v c changed i = Down v0 c0 v c changed (net.nodes - i)
+  Turns false v0 c0 v c changed i = Up v0 c0 v c changed (i + 1)
+
   abbrev pub Marks : Bool → Bool → Bool → Type 0
   Marks moved changed changed' = ((moved ≡ true) × (changed' ≡ true)) ⊎ ((moved ≡ false) × (changed' ≡ changed))
 
-  pub marks : (moved changed : Bool) → Marks moved changed (changed || moved)
+  marks : (moved changed : Bool) → Marks moved changed (changed || moved)
   marks true changed = inl (refl, or_true changed)
   marks false changed = inr (refl, or_false changed)
 
@@ -104,3 +109,16 @@ module _ {V : Type 0} (m : Algebra V) (net : Network V) (k : ℕ) where
           subst (λ z. Gone m net.nodes k (b + net.nodes) t z v c changed) is
           (going_gone m net k t (b + net.nodes) (λ i. j ≤ i) v c changed d.table (subst (λ z. Going m net k t z (λ i. j ≤ i) v c changed d.table) (omega arith) d.going));
     }
+
+    pub turns_more : (down : Bool) (v v' : List V) (c c' : List ℕ) (moved changed : Bool) (i j : ℕ) → j ≡ cond down (net.nodes - i) (i + 1) → i < net.nodes → Turns down v0 c0 v c changed i → NodeWorked m net k down j v c v' c' moved
+        → Turns down v0 c0 v' c' (changed || moved) (i + 1)
+    turns_more true v v' c c' moved changed i j is lt h w =
+        down_more v v' c c' moved changed (changed || moved) (net.nodes - i) (net.nodes - (i + 1)) (omega arith) (omega arith) (marks moved changed) h
+        (subst (λ z. NodeWorked m net k true z v c v' c' moved) is w)
+    turns_more false v v' c c' moved changed i j is lt h w =
+        up_more v v' c c' moved changed (changed || moved) (i + 1) (i + 1 + 1) refl (omega arith) (omega arith) (marks moved changed) h
+        (subst (λ z. NodeWorked m net k false z v c v' c' moved) is w)
+
+    pub turns_all : (down : Bool) (v : List V) (c : List ℕ) (changed : Bool) (i : ℕ) → i ≡ net.nodes → Turns down v0 c0 v c changed i → Passed m net k down v0 c0 v c changed
+    turns_all true v c changed i e h = down_all v c changed (net.nodes - i) (omega arith) h
+    turns_all false v c changed i e h = up_all v c changed (i + 1) (omega arith) h

@@ -61,13 +61,11 @@ impl<M: Measure> Inward<'_, M> {
             changed: false,
             from: 0,
         };
-        // by number: a zip of the two parts keeps two places and a count at hand, and a pass takes longer
-        for a in self.first[j - 1]..self.first[j] {
-            let arc = self.arcs[a];
-            if taken(arc, down, j) {
+        let (arcs, lengths) = self.into_node(j);
+        for (arc, x) in arcs.iter().zip(lengths) {
+            if taken(*arc, down, j) {
                 let from = arc.start as usize;
-                let x = self.lengths[a];
-                work_arc(values, k, from, counts[from - 1], j, &mut row, x);
+                work_arc(values, k, from, counts[from - 1], j, &mut row, *x);
             }
         }
         counts[j - 1] = row.held;

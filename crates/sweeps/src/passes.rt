@@ -16,15 +16,10 @@ impl<M: Measure> Inward<'_, M> {
         ensures { Passed M.Measure.algebra (net_of M.Measure.algebra self.now) k down values.old counts.old values.new counts.new result }
     {
         let mut changed = false;
-        // a loop for each way: in one, each arc would be asked which way it is
-        if down {
-            for j in (1..=self.nodes).rev() {
-                changed |= self.work_node(true, j, k, values, counts);
-            }
-        } else {
-            for i in 0..self.nodes {
-                changed |= self.work_node(false, i + 1, k, values, counts);
-            }
+        for i in 0..self.nodes {
+            // by a count, since a range and its reverse are two types
+            let j = if down { self.nodes - i } else { i + 1 };
+            changed |= self.work_node(down, j, k, values, counts);
         }
         changed
     }

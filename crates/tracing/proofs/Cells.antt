@@ -57,15 +57,18 @@ module _ {V : Type 0} (m : Algebra V) (T : Tables V) (arc : Arc) (x : V) (j : �
   abbrev pub Fits : ℕ → Type 0
   Fits q = Start m T (label arc.start q) x z
 
-  abbrev pub places : List ℕ
-  places = range_with_len 0 T.k
+  -- among the first n places, where the row has no lengths past them
+  module _ (n : ℕ) (all : (q : ℕ) → Held T arc.start q → q < n) where
+    abbrev pub places : List ℕ
+    places = range_with_len 0 n
 
-  pub first_link : (r : Option ℕ) → arc.«open» ≡ true → arc.end ≡ j
-      → MatchOption r (AllWithin (λ q. ¬ Fits q) places 0 (length places)) (λ q. Fits q × (i : ℕ) × (i < length places) × HoldsAt (λ y. y ≡ q) places i × AllWithin (λ q. ¬ Fits q) places 0 i) → Linked m T arc x j z r
-  first_link (Some q) marked into h = record { marked = marked; into = into; start = h.0.0; comes = h.0.1 }
-  first_link None marked into h = λ q l.
-      let e = get_or-range_with_len 0 T.k q 0 l.start.in_row ∙ zero-add q in
-      h q 0 (omega arith) (omega (arith, length-range_with_len 0 T.k, l.start.in_row)) (subst Fits (sym e) (l.start, l.comes))
+    pub first_link : (r : Option ℕ) → arc.«open» ≡ true → arc.end ≡ j
+        → MatchOption r (AllWithin (λ q. ¬ Fits q) places 0 (length places)) (λ q. Fits q × (i : ℕ) × (i < length places) × HoldsAt (λ y. y ≡ q) places i × AllWithin (λ q. ¬ Fits q) places 0 i) → Linked m T arc x j z r
+    first_link (Some q) marked into h = record { marked = marked; into = into; start = h.0.0; comes = h.0.1 }
+    first_link None marked into h = λ q l.
+        let lt = all q l.start in
+        let e = get_or-range_with_len 0 n q 0 lt ∙ zero-add q in
+        h q 0 (omega arith) (omega (arith, length-range_with_len 0 n, lt)) (subst Fits (sym e) (l.start, l.comes))
 
 -- a search along the arcs into a node
 module _ {V : Type 0} (m : Algebra V) (T : Tables V) (j p : ℕ) (here : V) (held : Held T j p) (is : here ≡ val m T j p) where

@@ -51,6 +51,11 @@ module _ {V : Type 0} (T : Tables V) where
     pub in_row : p < T.k
     pub in_count : p < count_of T.counts j
 
+  -- the first n places of node j's row have lengths, and no others do
+  pub record RowHolds (j n : ℕ) : Type 0 where
+    pub held : (p : ℕ) → p < n → Held j p
+    pub all : (p : ℕ) → Held j p → p < n
+
 -- y joined with x is z
 pub record Comes {V : Type 0} (m : Algebra V) (y x z : V) : Type 0 where
   pub present : Joinable m y x

@@ -1,7 +1,7 @@
 // Labels, and the arcs that lead back from one to another.
 ghost use Rattle.std.specs.Prelude.{◌≡◌};
 ghost use Rattle.sweeps.specs.Tables.{Whether};
-ghost use Rattle.tracing.specs.Labels.{read, lab, Start, Valued, Linked, Home};
+ghost use Rattle.tracing.specs.Labels.{read, lab, RowHolds, Start, Valued, Linked, Home};
 
 use super::Step;
 use super::lent::Lent;
@@ -28,6 +28,16 @@ impl<M: Measure> Lent<'_, M> {
         Some(self.values[(node - 1) * k + place])
     }
 
+    // How many places of a node's row hold lengths: none of what is no node.
+    fn held(&self, node: usize) -> usize
+        ensures { RowHolds (read self.now) node result }
+    {
+        if node == 0 || node > self.nodes {
+            return 0;
+        }
+        self.counts[node - 1].min(self.order.k)
+    }
+
     // Whether a label has a length that, joined with that of an arc, is another.
     fn comes(&self, label: Label, x: M, here: M) -> bool
         ensures { Whether result (Start M.Measure.algebra (read self.now) label x here) }
@@ -45,7 +55,8 @@ impl<M: Measure> Lent<'_, M> {
             return None;
         }
         let node = arc.start as usize;
-        (0..self.order.k).find(|&place| self.comes(Label { node, place }, x, here))
+        // over the lengths that the row has: where they are fewer than K, the places past them would be asked about in vain
+        (0..self.held(node)).find(|&place| self.comes(Label { node, place }, x, here))
     }
 
     // Whether a label is null at the source.

@@ -9,5 +9,5 @@ returns g c =
     let m = g.M.Measure.algebra in
     let T = read c.args.self.now in
     let F = Fits m T c.args.arc c.args.x c.args.node c.args.here in
-    first_link m T c.args.arc c.args.x c.args.node c.args.here _ (search (rules, tests)) c.if-arc-node.false
-    (first_from_find {v = λ x. x} _ _ c.find.result F (λ q. ¬ F q) c.find.ensures.ran (YieldsList-from_range 0 T.k _ (cc) (omega arith)) (λ x q k. search rules) (λ x q k. search rules))
+    first_link m T c.args.arc c.args.x c.args.node c.args.here c.held.result c.held.ensures.all _ (search (rules, tests)) c.if-arc-node.false
+    (first_from_find {v = λ x. x} _ _ c.find.result F (λ q. ¬ F q) c.find.ensures.ran (YieldsList-from_range 0 c.held.result _ (cc) (omega arith)) (λ x q k. search rules) (λ x q k. search rules))
