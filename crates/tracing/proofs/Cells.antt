@@ -1,8 +1,7 @@
 -- Reads of the tables.
-use Rattle.std.proofs.Common.{◌≡◌, ℕ, zero, suc, ◌+◌, ◌-◌, ◌*◌, ◌<◌, ◌≤◌, ◌⊎◌, List, length, get_or, sym, refl, ap, ◌∙◌, subst, inl, inr, mul-le-mul_right, suc-mul, add-one, zero-add, arith, Some, None, Option, true, false, ltb, ltb-true, ltb-false}
-use Rattle.std.specs.List.{AllWithin, HoldsAt, range_with_len}
+use Rattle.std.proofs.Common.{◌≡◌, ℕ, zero, suc, ◌+◌, ◌-◌, ◌*◌, ◌<◌, ◌≤◌, ◌⊎◌, List, length, get_or, sym, refl, ap, ◌∙◌, subst, inl, inr, mul-le-mul_right, suc-mul, add-one, arith, Some, None, Option, true, false, ltb, ltb-true, ltb-false}
+use Rattle.std.specs.List.{AllWithin, HoldsAt}
 use Rattle.std.specs.Option.{MatchOption}
-use Rattle.std.proofs.lemmas.List.FromFn.{length-range_with_len, get_or-range_with_len}
 use Rattle.std.specs.List.Sorted.{IsPartitionedBy, IsPartitionPoint}
 use Rattle.std.proofs.lemmas.List.Sorted.{IsNonDecreasingBy-from_default, IsPartitionedBy-ltb}
 use native.Mathlib.Decide.{dec_lt}
@@ -13,7 +12,7 @@ use Rattle.sweeps.specs.declared.Arc.{Arc}
 use Rattle.sweeps.specs.Tables.{no_arc, arc_at, length_at, start_of}
 use Rattle.tracing.specs.declared.labels.Label.{Label}
 use Rattle.tracing.specs.Tables.{Tables}
-use Rattle.tracing.specs.Labels.{label, lab, Held, val, Start, Link, Linked, Back, Home, SortedArcs, Split, Splits}
+use Rattle.tracing.specs.Labels.{label, lab, Held, RowOf, Comes, val, Link, Linked, Back, Home, SortedArcs, Split, Splits}
 
 pub cell_in : (n k j p v : ℕ) → n * k ≤ v → 0 < j → j ≤ n → p < k → start_of k j + p < v
 cell_in n k zero p v size low high l = absurd (omega arith)
@@ -53,22 +52,15 @@ splits_at arcs node r size point = record {
 }
 
 -- the first place of the arc's start whose length comes over the arc
-module _ {V : Type 0} (m : Algebra V) (T : Tables V) (arc : Arc) (x : V) (j : ℕ) (z : V) where
-  abbrev pub Fits : ℕ → Type 0
-  Fits q = Start m T (label arc.start q) x z
-
-  -- among the first n places, where the row has no lengths past them
-  module _ (n : ℕ) (all : (q : ℕ) → Held T arc.start q → q < n) where
-    abbrev pub places : List ℕ
-    places = range_with_len 0 n
-
-    pub first_link : (r : Option ℕ) → arc.«open» ≡ true → arc.end ≡ j
-        → MatchOption r (AllWithin (λ q. ¬ Fits q) places 0 (length places)) (λ q. Fits q × (i : ℕ) × (i < length places) × HoldsAt (λ y. y ≡ q) places i × AllWithin (λ q. ¬ Fits q) places 0 i) → Linked m T arc x j z r
-    first_link (Some q) marked into h = record { marked = marked; into = into; start = h.0.0; comes = h.0.1 }
-    first_link None marked into h = λ q l.
-        let lt = all q l.start in
-        let e = get_or-range_with_len 0 n q 0 lt ∙ zero-add q in
-        h q 0 (omega arith) (omega (arith, length-range_with_len 0 n, lt)) (subst Fits (sym e) (l.start, l.comes))
+module _ {V : Type 0} (m : Algebra V) (T : Tables V) (arc : Arc) (x : V) (j : ℕ) (z : V) (row : List V) (is : RowOf m T arc.start row) where
+  pub first_link : (r : Option ℕ) → arc.«open» ≡ true → arc.end ≡ j
+      → MatchOption r (AllWithin (λ y. ¬ Comes m y x z) row 0 (length row)) (λ q. (q < length row) × HoldsAt (λ y. Comes m y x z) row q × AllWithin (λ y. ¬ Comes m y x z) row 0 q) → Linked m T arc x j z r
+  first_link (Some q) marked into h =
+      let own = is.held q h.0 in
+      record { marked = marked; into = into; start = own.0; comes = subst (λ y. Comes m y x z) own.1 (h.1 m.null) }
+  first_link None marked into h = λ q l.
+      let lt = is.all q l.start in
+      h q m.null (omega arith) lt (subst (λ y. Comes m y x z) (sym (is.held q lt).1) l.comes)
 
 -- a search along the arcs into a node
 module _ {V : Type 0} (m : Algebra V) (T : Tables V) (j p : ℕ) (here : V) (held : Held T j p) (is : here ≡ val m T j p) where

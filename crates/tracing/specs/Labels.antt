@@ -51,11 +51,6 @@ module _ {V : Type 0} (T : Tables V) where
     pub in_row : p < T.k
     pub in_count : p < count_of T.counts j
 
-  -- the first n places of node j's row have lengths, and no others do
-  pub record RowHolds (j n : ℕ) : Type 0 where
-    pub held : (p : ℕ) → p < n → Held j p
-    pub all : (p : ℕ) → Held j p → p < n
-
 -- y joined with x is z
 pub record Comes {V : Type 0} (m : Algebra V) (y x z : V) : Type 0 where
   pub present : Joinable m y x
@@ -69,9 +64,10 @@ module _ {V : Type 0} (m : Algebra V) (T : Tables V) where
   Valued x (Some z) = Held T x.node x.place × (z ≡ val x.node x.place)
   Valued x None = ¬ Held T x.node x.place
 
-  -- label y has a length that, joined with x, is z
-  abbrev pub Start : Label → V → V → Type 0
-  Start y x z = Held T y.node y.place × Comes m (val y.node y.place) x z
+  -- these are the lengths in node j's row, at its places
+  pub record RowOf (j : ℕ) (row : List V) : Type 0 where
+    pub held : (p : ℕ) → p < length row → Held T j p × (slice_index_or row p m.null ≡ val j p)
+    pub all : (p : ℕ) → Held T j p → p < length row
 
   -- the length at place q of the arc's start comes over the arc, of length x, to the length z of node j
   pub record Link (arc : Arc) (x : V) (j : ℕ) (z : V) (q : ℕ) : Type 0 where

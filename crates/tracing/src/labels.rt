@@ -1,12 +1,19 @@
 // Labels, and the arcs that lead back from one to another.
 ghost use Rattle.std.specs.Prelude.{◌≡◌};
 ghost use Rattle.sweeps.specs.Tables.{Whether};
-ghost use Rattle.tracing.specs.Labels.{read, lab, RowHolds, Start, Valued, Linked, Home};
+ghost use Rattle.tracing.specs.Labels.{read, lab, RowOf, Comes, Valued, Linked, Home};
 
 use super::Step;
 use super::lent::Lent;
 use measure::Measure;
 use sweeps::Arc;
+
+// Whether a length joined with that of an arc is another.
+fn comes<M: Measure>(there: &M, x: &M, here: &M) -> bool
+    ensures { Whether result (Comes M.Measure.algebra there.now x.now here.now) }
+{
+    there.join(x).is_some_and(|sum| sum.compare(here).is_eq())
+}
 
 // A node and a place in its row.
 #[derive(Clone, Copy)]
@@ -28,23 +35,16 @@ impl<M: Measure> Lent<'_, M> {
         Some(self.values[(node - 1) * k + place])
     }
 
-    // How many places of a node's row hold lengths: none of what is no node.
-    fn held(&self, node: usize) -> usize
-        ensures { RowHolds (read self.now) node result }
+    // The lengths in a node's row: none of what is no node.
+    fn row(&self, node: usize) -> &[M]
+        ensures { RowOf M.Measure.algebra (read self.now) node result.now }
     {
         if node == 0 || node > self.nodes {
-            return 0;
+            return &[];
         }
-        self.counts[node - 1].min(self.order.k)
-    }
-
-    // Whether a label has a length that, joined with that of an arc, is another.
-    fn comes(&self, label: Label, x: M, here: M) -> bool
-        ensures { Whether result (Start M.Measure.algebra (read self.now) label x here) }
-    {
-        self.value(label)
-            .and_then(|there| there.join(&x))
-            .is_some_and(|sum| sum.compare(&here).is_eq())
+        let k = self.order.k;
+        let first = (node - 1) * k;
+        &self.values[first..first + self.counts[node - 1].min(k)]
     }
 
     // The place, in the row of the arc's start, of the length that comes over the arc to the length `here` of a node.
@@ -54,9 +54,9 @@ impl<M: Measure> Lent<'_, M> {
         if !arc.open || arc.end as usize != node {
             return None;
         }
-        let node = arc.start as usize;
-        // over the lengths that the row has: where they are fewer than K, the places past them would be asked about in vain
-        (0..self.held(node)).find(|&place| self.comes(Label { node, place }, x, here))
+        self.row(arc.start as usize)
+            .iter()
+            .position(|there| comes(there, &x, &here))
     }
 
     // Whether a label is null at the source.

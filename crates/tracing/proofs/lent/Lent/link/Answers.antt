@@ -1,13 +1,11 @@
-use Rattle.std.proofs.Common.{rules, tests, arith}
-use Rattle.std.proofs.lemmas.Iterator.{first_from_find, YieldsList-from_range}
-use Rattle.tracing.specs.Labels.{read}
-use Rattle.tracing.proofs.Cells.{Fits, first_link}
+use Rattle.std.proofs.Common.{rules, tests}
+use Rattle.std.proofs.lemmas.Iterator.{IsFirst-from_position, YieldsList-from_slice}
+use Rattle.tracing.specs.Labels.{read, Comes}
+use Rattle.tracing.proofs.Cells.{first_link}
 use Rattle.tracing.proofs.lent.Lent.link.Goals as goal
 
 pub returns : goal.returns
 returns g c =
     let m = g.M.Measure.algebra in
-    let T = read c.args.self.now in
-    let F = Fits m T c.args.arc c.args.x c.args.node c.args.here in
-    first_link m T c.args.arc c.args.x c.args.node c.args.here c.held.result c.held.ensures.all _ (search (rules, tests)) c.if-arc-node.false
-    (first_from_find {v = λ x. x} _ _ c.find.result F (λ q. ¬ F q) c.find.ensures.ran (YieldsList-from_range 0 c.held.result _ (cc) (omega arith)) (λ x q k. search rules) (λ x q k. search rules))
+    first_link m (read c.args.self.now) c.args.arc c.args.x c.args.node c.args.here c.row.result.now c.row.ensures _ (search (rules, tests)) c.if-arc-node.false
+    (IsFirst-from_position _ _ c.position.result (λ y. Comes m y c.args.x c.args.here) (λ y. ¬ Comes m y c.args.x c.args.here) c.position.ensures.ran (YieldsList-from_slice c.row.result.now (cc)) (λ y q k. search rules) (λ y q k. search rules))
